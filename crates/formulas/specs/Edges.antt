@@ -1,0 +1,85 @@
+-- Document 01, 'Values at the edges': the starred ones, as one theorem. Each is computed from the definition or the table that the
+-- rating uses. Assumes nothing.
+use mathlib.Core.Path.{_≡_, refl}
+use mathlib.Core.Bool.{Bool, true, false}
+use Prim.Native.Nat.{ℕ, _*_}
+use lib.IntN.{pos, negℤ}
+use Rattle.exact.specs.Rounding.{up, down}
+use Rattle.exact.specs.Root.{root}
+use Rattle.formulas.specs.Tables.{
+  ksTable,
+  kpTable,
+  metalTable,
+  entry,
+  ks,
+  kp,
+  coefficient,
+  conductorMetal,
+}
+use Rattle.formulas.specs.Constants.{tera, piLow, piHigh, ln2Low, ln2High}
+use Rattle.formulas.specs.Resistance.{temperatureFactor, resistance}
+use Rattle.formulas.specs.Reactance.{reactance, reactanceLow}
+use Rattle.formulas.specs.Skin.{skinReactance, skinRatio, factor}
+use Rattle.formulas.specs.Proximity.{spacingRatio}
+use Rattle.formulas.specs.Logarithm.{
+  octaves,
+  doubled,
+  firstPower,
+  thirteenTerms,
+  logLow,
+  logHigh,
+}
+use Rattle.formulas.specs.Sheath.{bondRatio, bondRatioSquared, circulatingLoss}
+use Rattle.formulas.specs.Rating.{rating}
+use Rattle.formulas.specs.Refusals.{skinRefused, eddyRefused, dielectricRefused}
+
+-- refusal 8 of a conductor code at a frequency and an R'
+abbrev skinRefusedAt : ℕ → ℕ → ℕ → Bool
+skinRefusedAt f code r' = skinRefused (skinRatio f (ks code) r') (skinRatio f (kp code) r')
+
+pub record Starred : Type 0 where
+  pub B : reactance 5000 ≡ 628318530720
+  pub B- : reactanceLow 5000 ≡ 628318530700
+  pub copper : resistance 28300 (coefficient (conductorMetal 1)) (pos 9000) ≡ 360853300000
+  pub lead : resistance 400000 (coefficient 1) (pos 8000) ≡ 4960000000000
+  pub steel : temperatureFactor (coefficient 6) (negℤ (pos 4000)) ≡ pos 7300000
+  pub skin : factor (48 * tera) ≡ 208333333334
+  pub u : spacingRatio 3000 9000 ≡ 111111111112
+  pub log2-low : logLow 2 1 ≡ 693147180559
+  pub log2-high : logHigh 2 1 ≡ 693147180561
+  pub S : circulatingLoss 4960000000000 4960000000000 ≡ 2480000000000
+  pub passes-8 : skinRefusedAt 5000 1 160285339470 ≡ false
+  pub gets-8 : skinRefusedAt 5000 1 160285339469 ≡ true
+  pub passes-9 : eddyRefused (reactance 5000) 3141592653600 ≡ false
+  pub gets-9 : eddyRefused (reactance 5000) 3141592653599 ≡ true
+  pub passes-10 : dielectricRefused 45000000000 5000 ≡ false
+  pub gets-10 : dielectricRefused 45000000001 5000 ≡ true
+  pub I : rating 50000000000 500000000000 ≡ 1000000
+  pub I-less : rating 49999999999 500000000000 ≡ 999999
+
+pub starred : Starred
+unfolding up down root ksTable kpTable metalTable entry ks kp coefficient conductorMetal tera piLow piHigh ln2Low ln2High
+    temperatureFactor resistance reactance reactanceLow skinReactance skinRatio factor spacingRatio octaves doubled
+    firstPower thirteenTerms logLow logHigh bondRatio bondRatioSquared circulatingLoss rating skinRefused eddyRefused
+    dielectricRefused
+starred =
+    record {
+      B = refl;
+      B- = refl;
+      copper = refl;
+      lead = refl;
+      steel = refl;
+      skin = refl;
+      u = refl;
+      log2-low = refl;
+      log2-high = refl;
+      S = refl;
+      passes-8 = refl;
+      gets-8 = refl;
+      passes-9 = refl;
+      gets-9 = refl;
+      passes-10 = refl;
+      gets-10 = refl;
+      I = refl;
+      I-less = refl;
+    }

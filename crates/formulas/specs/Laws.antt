@@ -1,0 +1,4 @@
+-- What document 01 says of its own definitions, proved of them. Assumes nothing.
+pub mod Temperature
+pub mod Octaves
+pub mod Current

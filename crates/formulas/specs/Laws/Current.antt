@@ -1,0 +1,21 @@
+-- Stage 10's rating is what document 01 says it is: the largest I with I² E ≤ 10^13 N. Assumes nothing.
+use Prim.Native.Nat.{ℕ, _+_, _*_, _^_, _≤_, _<_}
+use native.Mathlib.Nat.{le-trans, lt-of-lt-of-le, mul-le-mul-right}
+use native.Mathlib.Omega.{arith}
+use Rattle.exact.specs.Rounding.{down, down-below, down-close}
+use Rattle.exact.specs.Root.{root, root-is, IsRoot}
+use Rattle.formulas.specs.Rating.{rating}
+
+-- i is the largest current with i² E ≤ 10^13 N
+pub record IsRating (n e i : ℕ) : Type 0 where
+  pub carried : i * i * e ≤ 10 ^ 13 * n
+  pub no-more : 10 ^ 13 * n < (i + 1) * (i + 1) * e
+
+pub rating-largest : (n : ℕ) {e : ℕ} → 0 < e → IsRating n e (rating n e)
+unfolding rating
+rating-largest n {e} e>0 =
+    let p : IsRoot (down (10 ^ 13 * n) e) (root (down (10 ^ 13 * n) e)) = root-is _ in
+    record {
+      carried = le-trans (mul-le-mul-right e (p .below)) (down-below (10 ^ 13 * n) e);
+      no-more = lt-of-lt-of-le (down-close (10 ^ 13 * n) e>0) (le-trans (omega arith) (mul-le-mul-right e (p .above)));
+    }

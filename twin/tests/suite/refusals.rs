@@ -1,0 +1,221 @@
+// The refusals 1 to 11: each by itself, at the edges of its condition, and in
+// pairs, where the smaller number must win.
+
+use crate::cases::{
+    with, Words, ALL, FLAT, FLAT_SINGLE_POINT, SL_TYPE, TREFOIL, TREFOIL_SINGLE_POINT,
+};
+use twin::rating::{current_refused, rate, Rated};
+use twin::standard::Cable;
+
+type Changes = &'static [(usize, u32)];
+
+const COLD: u32 = (-4000i32) as u32;
+const TOO_COLD: u32 = (-4001i32) as u32;
+
+/// Changes to the trefoil bonded at one point that bring about each refusal,
+/// chosen so that they hardly disturb one another. The pairs apply the later
+/// refusal's changes first, so 8's lower R0 stands over 11's.
+const BRINGS: [(u32, Changes); 11] = [
+    (1, &[(0, 6)]),
+    (2, &[(1, 9)]),
+    (3, &[(11, 801)]),
+    (4, &[(17, 1)]),
+    (5, &[(6, 2841)]),
+    (6, &[(16, 8501)]),
+    (7, &[(14, 3)]),
+    (8, &[(5, 5000)]),
+    (9, &[(15, 1000)]),
+    (10, &[(9, 3180), (10, 300_000), (11, 800), (12, 10000)]),
+    (11, &[(4, COLD), (5, 16000), (15, 20_000_000), (22, 1000), (24, 0), (25, 10000)]),
+];
+
+fn refused_with(case: &Words, number: u32) {
+    let expected = Rated { answer: number, rating: 0, sheet: [0; 13] };
+    assert_eq!(rate(case), expected, "{case:?}");
+}
+
+#[test]
+fn every_base_is_rated() {
+    for case in ALL {
+        let rated = rate(&case);
+        assert_eq!(rated.answer, 0, "{case:?}");
+        assert!(rated.rating > 100_000);
+    }
+}
+
+#[test]
+fn each_refusal_by_itself() {
+    for (number, changes) in BRINGS {
+        refused_with(&with(&TREFOIL_SINGLE_POINT, changes), number);
+    }
+}
+
+#[test]
+fn the_smaller_of_two_wins() {
+    for (index, (smaller, first)) in BRINGS.into_iter().enumerate() {
+        for (_, second) in &BRINGS[index + 1..] {
+            let case = with(&with(&TREFOIL_SINGLE_POINT, second), first);
+            refused_with(&case, smaller);
+        }
+    }
+}
+
+/// The pair 10 and 11 needs care, for the dielectric loss must leave enough of
+/// the rise for 5000 A: the standard's formulas say that both do hold there.
+#[test]
+fn dielectric_and_current_hold_together() {
+    let ((_, dielectric), (_, current)) = (BRINGS[9], BRINGS[10]);
+    let cable = Cable::from_fields(&with(&with(&TREFOIL_SINGLE_POINT, current), dielectric));
+    let rise = cable.theta_c - cable.theta_a;
+    let dielectric_rise = cable.dielectric_loss() * (0.5 * 0.001 + 0.01);
+    assert!(dielectric_rise > 0.9 * rise && dielectric_rise < rise, "{dielectric_rise}");
+    assert!(cable.rating() > 5000.0, "{}", cable.rating());
+}
+
+#[test]
+fn arrangement_and_conductor_ends() {
+    for (arrangement, number) in [(0, 1), (6, 1), (u32::MAX, 1)] {
+        refused_with(&with(&TREFOIL, &[(0, arrangement)]), number);
+    }
+    for code in [0, 9, u32::MAX] {
+        refused_with(&with(&TREFOIL, &[(1, code)]), 2);
+    }
+    refused_with(&[0; 26], 1);
+    refused_with(&[u32::MAX; 26], 1);
+}
+
+/// Just outside each limit of fields 2 to 25 in the SL cable, as document 01's
+/// table of fields has them.
+const JUST_OUTSIDE: [(usize, u32, u32); 24] = [
+    (2, 999, 6501),
+    (3, 3999, 25001),
+    (4, TOO_COLD, 6001),
+    (5, 4999, 20_000_001),
+    (6, 99, 10001),
+    (7, 99, 1_000_001),
+    (8, 99, 20001),
+    (9, 99, 30001),
+    (10, u32::MAX, 300_001),
+    (11, 99, 801),
+    (12, 0, 10001),
+    (13, 99, 50001),
+    (14, 0, 7),
+    (15, 999, 20_000_001),
+    (16, TOO_COLD, 25001),
+    (17, 0, 7),
+    (18, 999, 20_000_001),
+    (19, TOO_COLD, 25001),
+    (20, 99, 50001),
+    (21, 99, 50001),
+    (22, 999, 10_000_001),
+    (23, u32::MAX, 10_000_001),
+    (24, u32::MAX, 10_000_001),
+    (25, 9999, 20_000_001),
+];
+
+#[test]
+fn limits_just_outside_and_at_the_ends() {
+    for (field, below, above) in JUST_OUTSIDE {
+        refused_with(&with(&SL_TYPE, &[(field, below)]), 3);
+        refused_with(&with(&SL_TYPE, &[(field, above)]), 3);
+        for inside in [below.wrapping_add(1), above - 1] {
+            assert_ne!(rate(&with(&SL_TYPE, &[(field, inside)])).answer, 3, "{field} {inside}");
+        }
+    }
+}
+
+#[test]
+fn armour_fields_outside_the_sl_cable_are_stray() {
+    for base in [TREFOIL, FLAT, TREFOIL_SINGLE_POINT, FLAT_SINGLE_POINT] {
+        for field in 17..=21 {
+            // In or out of the SL cable's limits: stray either way.
+            for word in [1, 6, 5000, COLD, u32::MAX] {
+                refused_with(&with(&base, &[(field, word)]), 4);
+            }
+        }
+    }
+}
+
+#[test]
+fn geometry_edges() {
+    assert_eq!(rate(&with(&TREFOIL, &[(6, 2840)])).answer, 0);
+    refused_with(&with(&TREFOIL, &[(6, 2841)]), 5);
+    // 105 x 2840 = 100 x 2982.
+    let low_voltage = with(&TREFOIL, &[(10, 0)]);
+    assert_eq!(rate(&with(&low_voltage, &[(9, 2982)])).answer, 0);
+    refused_with(&with(&low_voltage, &[(9, 2981)]), 5);
+    assert_eq!(rate(&with(&TREFOIL, &[(13, 5640)])).answer, 0);
+    refused_with(&with(&TREFOIL, &[(13, 5639)]), 5);
+    assert_eq!(rate(&with(&TREFOIL, &[(7, 6100)])).answer, 0);
+    refused_with(&with(&TREFOIL, &[(7, 6099)]), 5);
+    assert_eq!(rate(&with(&SL_TYPE, &[(20, 5500)])).answer, 0);
+    refused_with(&with(&SL_TYPE, &[(20, 5501)]), 5);
+}
+
+#[test]
+fn heat_edges() {
+    assert_eq!(rate(&with(&TREFOIL, &[(16, 8500)])).answer, 0);
+    refused_with(&with(&TREFOIL, &[(16, 8501)]), 6);
+    assert_eq!(rate(&with(&SL_TYPE, &[(19, 8500)])).answer, 0);
+    refused_with(&with(&SL_TYPE, &[(19, 8501)]), 6);
+    // A sheath may be colder than the ambient, and below zero.
+    assert_eq!(rate(&with(&TREFOIL, &[(16, COLD)])).answer, 0);
+}
+
+#[test]
+fn metals_by_arrangement() {
+    for metal in 2..=6 {
+        assert_eq!(rate(&with(&TREFOIL, &[(14, metal)])).answer, 0);
+        assert_eq!(rate(&with(&FLAT, &[(14, metal)])).answer, 0);
+        for base in [TREFOIL_SINGLE_POINT, FLAT_SINGLE_POINT, SL_TYPE] {
+            refused_with(&with(&base, &[(14, metal)]), 7);
+        }
+    }
+    for metal in 1..=5 {
+        refused_with(&with(&SL_TYPE, &[(17, metal)]), 7);
+    }
+}
+
+#[test]
+fn skin_holds_with_either_coefficient() {
+    // Copper at 85 degrees, ks 1: R' = R0 x 12554500 crosses at R0 12767.2.
+    refused_with(&with(&TREFOIL, &[(5, 12767)]), 8);
+    assert_eq!(rate(&with(&TREFOIL, &[(5, 12768)])).answer, 0);
+    // Codes 6 to 8 have kp above ks, so there kp decides, and alike.
+    for code in 6..=8 {
+        // At 40 degrees R' = R0 x 10806000; kp 0.37 crosses at R0 5488.2.
+        let cold = with(&TREFOIL, &[(1, code), (3, 4000), (10, 0), (16, 4000)]);
+        refused_with(&with(&cold, &[(5, 5488)]), 8);
+        assert_eq!(rate(&with(&cold, &[(5, 5489)])).answer, 0);
+    }
+}
+
+#[test]
+fn eddy_holds_only_where_bonded_at_one_point() {
+    // Lead at 20 degrees: Rs = field x 10^7 against 3141592653600.
+    let low = [(15, 314_159), (16, 2000)];
+    let high = [(15, 314_160), (16, 2000)];
+    for base in [TREFOIL_SINGLE_POINT, FLAT_SINGLE_POINT] {
+        refused_with(&with(&base, &low), 9);
+        assert_eq!(rate(&with(&base, &high)).answer, 0);
+    }
+    for base in [TREFOIL, FLAT, SL_TYPE] {
+        assert_eq!(rate(&with(&base, &low)).answer, 0);
+    }
+}
+
+#[test]
+fn current_edge() {
+    // The R0 at which the rating of this cable falls to 5000 A: found by
+    // walking, then both sides must stand as the limit says.
+    let (_, large_current) = BRINGS[10];
+    let base = with(&TREFOIL, large_current);
+    let first = (16000..2_000_000)
+        .step_by(1000)
+        .find(|&r0| rate(&with(&base, &[(5, r0)])).answer == 0)
+        .unwrap_or(0);
+    let rated = rate(&with(&base, &[(5, first)]));
+    assert!(rated.rating <= 5_000_000 && rated.rating > 4_900_000, "{rated:?}");
+    refused_with(&with(&base, &[(5, first - 1000)]), 11);
+    assert!(!current_refused(5_000_000) && current_refused(5_000_001));
+}

@@ -7,35 +7,7 @@ use native.Mathlib.Nat.{mul-pos, mul-le-mul-right, lt-of-mul-lt-mul-left, le-ref
 use native.Mathlib.Omega.{arith}
 use lib.Dec.{lit<}
 use Rattle.exact.specs.Rounding.{up, down}
-use Rattle.exact.specs.Fraction.{
-  Fraction,
-  _over_,
-  whole,
-  _+F_,
-  _*F_,
-  reciprocal,
-  _/F_,
-  _≤F_,
-  _<F_,
-  _≃F_,
-  ≤F-refl,
-  ≤F-trans,
-  <F→≤F,
-  ≃F→≤F,
-  ≃F-sym,
-  +F-mono,
-  *F-mono,
-  reciprocal-anti,
-  +F-comm,
-  +F-assoc,
-  *F-comm,
-  *F-assoc,
-  *F-+F,
-  over≤up,
-  up<over,
-  down≤over,
-  over<down,
-}
+use Rattle.exact.specs.Fraction.{Fraction, _over_, whole, _+F_, _*F_, reciprocal, _/F_, _≤F_, _<F_, _≃F_, ≤F-refl, ≤F-trans, <F→≤F, ≃F→≤F, +F-mono, *F-mono, reciprocal-anti, +F-assoc, *F-comm, over≤up, up<over, down≤over, over<down}
 
 -- r parts in 10^12
 unfoldable pub parts : ℕ → Fraction

@@ -3,18 +3,7 @@
 -- formula has a value, and no law has a side condition for it. Assumes nothing.
 use mathlib.Core.Path.{_≡_, refl, sym, ap₂}
 use Prim.Native.Nat.{ℕ, _+_, _*_, _≤_, _<_}
-use native.Mathlib.Nat.{
-  mul-comm,
-  mul-le-mul,
-  le-refl,
-  le-of-lt,
-  le-of-eq,
-  mul-le-mul-right,
-  mul-lt-mul-of-pos-right,
-  mul-pos,
-  le-of-mul-le-mul-right,
-  lt-of-mul-lt-mul-right,
-}
+use native.Mathlib.Nat.{mul-le-mul, le-refl, le-of-lt, le-of-eq, mul-le-mul-right, mul-lt-mul-of-pos-right, mul-pos, le-of-mul-le-mul-right, lt-of-mul-lt-mul-right}
 use native.Mathlib.Omega.{arith}
 use lib.Dec.{lit<}
 use Rattle.exact.specs.Rounding.{up, down, up-above, up-close, down-below, down-close}

@@ -26,35 +26,7 @@ use Rattle.exact.specs.Rounding.{
   up-up,
 }
 use Rattle.exact.specs.Root.{IsRoot, root-only, square-cancel-<}
-use Rattle.exact.specs.Fraction.{
-  Fraction,
-  _over_,
-  whole,
-  _+F_,
-  _*F_,
-  _/F_,
-  reciprocal,
-  _≤F_,
-  _<F_,
-  _≃F_,
-  ≤F-refl,
-  ≤F-trans,
-  <F-≤F-trans,
-  ≤F-<F-trans,
-  <F→≤F,
-  ≃F→≤F,
-  ≃F-sym,
-  +F-mono,
-  +F-mono-<,
-  *F-mono,
-  *F-mono-<,
-  reciprocal-anti,
-  *F-+F,
-  over≤up,
-  up<over,
-  down≤over,
-  over<down,
-}
+use Rattle.exact.specs.Fraction.{_over_, whole, _+F_, _*F_, _/F_, reciprocal, _≤F_, _<F_, _≃F_, ≤F-refl, ≤F-trans, <F-≤F-trans, ≤F-<F-trans, <F→≤F, ≃F→≤F, ≃F-sym, +F-mono, +F-mono-<, *F-mono, *F-mono-<, reciprocal-anti, *F-+F, over≤up, up<over, down≤over, over<down}
 use Rattle.exact.specs.Error.{
   parts,
   Within,

@@ -3,9 +3,9 @@
 use mathlib.Core.Path.{_≡_, refl}
 use mathlib.Core.Bool.{Bool, true, false, cond}
 use Prim.Native.Nat.{ℕ, zero, suc, _+_, _*_, _/_, _^_, _≤_, _<_}
-use native.Mathlib.Nat.{le-antisymm, lt-of-not-le, mul-le-mul, pow-suc, pow-zero, div-lt-iff-lt-mul}
+use native.Mathlib.Nat.{le-antisymm, lt-of-not-le, mul-le-mul, pow-suc, pow-zero}
 use native.Mathlib.Omega.{arith}
-use lib.Dec.{leb, eqb, lit<}
+use lib.Dec.{leb, eqb}
 use borrow.Author.Tests.{leb-true, leb-false, eqb-true}
 
 -- r is the integer square root of x

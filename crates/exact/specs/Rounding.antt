@@ -1,7 +1,7 @@
 -- Rounding a quotient to a whole number, document 01's up(a/b) and down(a/b), with the laws that everything else uses.
--- Both are opened in this file alone: elsewhere up(a/b) is the only q with a ≤ q·b < a + b, and down(a/b) the only q with
+-- Both are opened in this file and where closed values are computed: elsewhere up(a/b) is the only q with a ≤ q·b < a + b, and down(a/b) the only q with
 -- q·b ≤ a < q·b + b. Assumes nothing.
-use mathlib.Core.Path.{_≡_, sym}
+use mathlib.Core.Path.{_≡_, refl, sym}
 use Prim.Native.Nat.{ℕ, _+_, _-_, _*_, _/_, _≤_, _<_}
 use native.Mathlib.Nat.{
   le-refl,
@@ -23,6 +23,16 @@ down a b = a / b
 -- the whole number next above a/b, or a/b itself
 unfoldable pub up : ℕ → ℕ → ℕ
 up a b = (a + (b - 1)) / b
+
+-- How code computes them.
+
+pub up-code : (a b : ℕ) → up a b ≡ (a + (b - 1)) / b
+unfolding up
+up-code a b = refl
+
+pub down-code : (a b : ℕ) → down a b ≡ a / b
+unfolding down
+down-code a b = refl
 
 -- What each is.
 

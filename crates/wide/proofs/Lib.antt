@@ -1,0 +1,3 @@
+pub mod LongDivision
+pub mod Newton
+pub mod TwoLimbs

@@ -1,0 +1,75 @@
+-- `wide::limbs::product` meets its contract: a product of two halves leaves room for the two halves that a column adds, and
+-- the columns make the whole product. Assumes nothing.
+use Prim.Native.Nat.{ℕ, _*_, _/_, _%_, _≤_}
+use native.Mathlib.Omega.{arith}
+use borrow.Author.Needs.{needs}
+use Rattle.wide.specs.Limbs.{value}
+use Rattle.wide.proofs.TwoLimbs.{halves, columns}
+use Rattle.wide.proofs.limbs.product.Statement.{statement}
+use Rattle.wide.proofs.limbs.product.Tie as tie
+
+-- the four products of a half of a and a half of b
+record Room (a b : ℕ) : Type 0 where
+  low-low : a % 4294967296 * (b % 4294967296) ≤ 18446744065119617025
+  high-low : a / 4294967296 * (b % 4294967296) ≤ 18446744065119617025
+  low-high : a % 4294967296 * (b / 4294967296) ≤ 18446744065119617025
+  high-high : a / 4294967296 * (b / 4294967296) ≤ 18446744065119617025
+
+room : (c : tie.Start) → Room (c .args .a) (c .args .b)
+room c =
+    record {
+      low-low = halves (omega arith) (omega arith);
+      high-low = halves (omega arith) (omega arith);
+      low-high = halves (omega arith) (omega arith);
+      high-high = halves (omega arith) (omega arith);
+    }
+
+mul-first : tie.Need-mul-first
+mul-first c = let r = room c in omega arith
+
+mul-second : tie.Need-mul-second
+mul-second c = let r = room c in omega arith
+
+add-second : tie.Need-add-second
+add-second c = let r = room c in omega arith
+
+mul-third : tie.Need-mul-third
+mul-third c = let r = room c in omega arith
+
+add-third : tie.Need-add-third
+add-third c = let r = room c in omega arith
+
+mul-t10 : tie.Need-mul-t10
+mul-t10 c = let r = room c in omega arith
+
+add-t12 : tie.Need-add-t12
+add-t12 c = let r = room c in omega arith
+
+add-t14 : tie.Need-add-t14
+add-t14 c = let r = room c in omega arith
+
+mul-t16 : tie.Need-mul-t16
+mul-t16 c = search needs
+
+add-t18 : tie.Need-add-t18
+add-t18 c = search needs
+
+returns : tie.Need-returns
+unfolding value
+returns c = columns 4294967296 (c .args .a) (c .args .b)
+
+pub product-spec : {M : Type 1} → statement M
+product-spec =
+    tie.close
+    (tie.spec
+    mul-first
+    mul-second
+    add-second
+    mul-third
+    add-third
+    mul-t10
+    add-t12
+    add-t14
+    mul-t16
+    add-t18
+    returns)

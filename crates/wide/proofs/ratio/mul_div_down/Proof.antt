@@ -1,0 +1,14 @@
+-- `wide::ratio::mul_div_down` meets its contract: the quotient is a·b/c rounded down. Assumes nothing.
+use borrow.Author.Needs.{needs}
+use Rattle.wide.specs.Split.{split-down}
+use Rattle.wide.proofs.ratio.mul_div_down.Statement.{statement}
+use Rattle.wide.proofs.ratio.mul_div_down.Tie as tie
+
+mul-div-requires : tie.Need-mul-div-requires
+mul-div-requires c κs = search needs
+
+returns : tie.Need-returns
+returns c = split-down (c .mul-div .ensures)
+
+pub mul-div-down-spec : {M : Type 1} → statement M
+mul-div-down-spec = tie.close (tie.spec mul-div-requires returns)

@@ -1,0 +1,62 @@
+-- `wide::root::root` meets its contract. The loop's invariant: r + 1 is above the root, and r is a u32. The measure is r:
+-- a step from above the root comes below r. Assumes nothing.
+use Prim.Native.Nat.{_+_, _*_, _<_}
+use native.Mathlib.Omega.{arith}
+use borrow.Author.Needs.{needs}
+use Rattle.wide.proofs.TwoLimbs.{halves}
+use Rattle.wide.proofs.Newton.{step-above, step-below}
+use Rattle.wide.proofs.root.root.Statement.{statement}
+use Rattle.wide.proofs.root.root.Tie as tie
+
+abbrev Inv-loop : tie.InvT-loop
+Inv-loop x r₀ r = (r < 4294967296) × (x < (r + 1) * (r + 1))
+
+abbrev μ-loop : tie.MeasureT-loop
+μ-loop x r₀ r = r
+
+returns : tie.Need-returns Inv-loop μ-loop
+returns c = search needs
+
+guess-requires : tie.Need-guess-requires Inv-loop μ-loop
+guess-requires c κs = search needs
+
+stepped-requires : tie.Need-stepped-requires Inv-loop μ-loop
+stepped-requires c κs = search needs
+
+loop-holds : tie.Need-loop-holds Inv-loop μ-loop
+loop-holds c = search needs
+
+mul-loop : tie.Need-mul-loop Inv-loop μ-loop
+mul-loop c = omega (arith, halves (c .loop .inv .0) (c .loop .inv .0))
+
+loop-less : tie.Need-loop-less Inv-loop μ-loop
+loop-less c = step-below _ _ (c .loop-test .taken)
+
+div-r : tie.Need-div-r Inv-loop μ-loop
+div-r c = omega (arith, loop-less c)
+
+add-r : tie.Need-add-r Inv-loop μ-loop
+add-r c = omega (arith, loop-less c)
+
+loop-again : tie.Need-loop-again Inv-loop μ-loop
+loop-again c = (omega (arith, loop-less c), step-above _ _ (div-r c))
+
+returns-2 : tie.Need-returns-2 Inv-loop μ-loop
+returns-2 c = (c .loop-test .left, c .before .loop .inv .1)
+
+pub root-spec : {M : Type 1} → statement M
+root-spec =
+    tie.close
+    (tie.spec
+    Inv-loop
+    μ-loop
+    returns
+    guess-requires
+    stepped-requires
+    loop-holds
+    mul-loop
+    div-r
+    add-r
+    loop-less
+    loop-again
+    returns-2)

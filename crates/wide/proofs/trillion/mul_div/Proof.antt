@@ -1,0 +1,27 @@
+-- `wide::trillion::mul_div` meets its contract: the quotient fits, so the product's upper limb is below 10^12.
+-- Assumes nothing.
+use mathlib.Core.Path.{subst}
+use Prim.Native.Nat.{ℕ, _^_}
+use native.Mathlib.Omega.{arith}
+use borrow.Author.Needs.{needs}
+use Rattle.wide.specs.Limbs.{value}
+use Rattle.wide.specs.Split.{Split, high-below}
+use Rattle.wide.proofs.trillion.mul_div.Statement.{statement}
+use Rattle.wide.proofs.trillion.mul_div.Tie as tie
+
+product-requires : tie.Need-product-requires
+product-requires c κs = search needs
+
+divide-requires : tie.Need-divide-requires
+unfolding value
+divide-requires c κs =
+    high-below (c .product .result .hi) (c .product .result .lo) (2 ^ 64) (omega arith) (c .product .ensures) (c .before .pre)
+
+returns : tie.Need-returns
+unfolding value
+returns c =
+    let d = c .divide .result in
+    subst (λ (n : ℕ). Split n 1000000000000 (d .quotient) (d .rest)) (c .before .product .ensures) (c .divide .ensures)
+
+pub mul-div-spec : {M : Type 1} → statement M
+mul-div-spec = tie.close (tie.spec product-requires divide-requires returns)

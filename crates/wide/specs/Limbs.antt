@@ -1,0 +1,6 @@
+-- The number that two limbs stand for.
+use Prim.Native.Nat.{ℕ, _+_, _*_, _^_}
+use Rattle.wide.specs.declared.limbs.Wide.{Wide}
+
+unfoldable pub value : Wide → ℕ
+value w = w .hi * 2 ^ 64 + w .lo

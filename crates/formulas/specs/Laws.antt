@@ -2,3 +2,6 @@
 pub mod Temperature
 pub mod Octaves
 pub mod Current
+pub mod Ranges
+pub mod LogRange
+pub mod TableRange

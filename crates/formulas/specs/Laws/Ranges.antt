@@ -1,0 +1,250 @@
+-- How large the stages' numbers get within the limits of the fields: what the code of the stages needs so that each product and
+-- quotient fits. Each bound is proved from bounds on what goes in. Assumes nothing.
+use mathlib.Core.Bool.{Bool, true, false, cond}
+use Prim.Native.Nat.{ℕ, _+_, _*_, _≤_, _<_}
+use native.Mathlib.Nat.{le-trans, mul-le-mul, mul-le-mul-right, mul-pos}
+use native.Mathlib.Omega.{arith}
+use lib.Dec.{eqb, lit<, lit≤}
+use lib.IntN.{ℤ, pos, negℤ}
+use lib.Signed.{_≤ℤ_}
+use Rattle.exact.specs.Rounding.{up, down, up-least, up-least-below, down-most-above}
+use Rattle.formulas.specs.Constants.{tera, piLow, piHigh, ln2ThirdLow, ln2ThirdHigh}
+use Rattle.formulas.specs.Resistance.{temperatureFactor, resistance}
+use Rattle.formulas.specs.Reactance.{reactance, reactanceLow}
+use Rattle.formulas.specs.Skin.{skinReactance, skinRatioSquared, factor}
+use Rattle.formulas.specs.Proximity.{spacingRatio, proximityH, proximityG, proximityFactor, acResistance}
+use Rattle.formulas.specs.Spacing.{spacingLogHigh, spacingLogLow, sheathReactance, sheathReactanceLow}
+use Rattle.formulas.specs.Sheath.{
+  bondRatio,
+  bondRatioSquared,
+  circulatingLoss,
+  threeHalves,
+  slLoss,
+  eddyRatio,
+  eddyRatioSquared,
+  eddyFactor,
+  eddySpacing,
+  eddyLoss,
+}
+use Rattle.formulas.specs.Armour.{
+  armourRatio,
+  armourRatioSquared,
+  armourResistance,
+  unscreenedLoss,
+  screeningRatioSquared,
+  screenedLoss,
+}
+use Rattle.formulas.specs.Dielectric.{dielectricResistance, dielectricRise}
+use Rattle.formulas.specs.Rating.{unitRise}
+use Rattle.formulas.specs.Laws.Temperature.{FactorRange, temperatureFactor-range}
+use Rattle.formulas.specs.Laws.LogRange.{logHigh-most, logLow-most}
+
+-- n is at least low and at most high
+pub record In (low high n : ℕ) : Type 0 where
+  pub least : low ≤ n
+  pub most : n ≤ high
+
+pub resistance-range :
+    (low high : ℕ) {field α : ℕ} (θ : ℤ) → In low high field → α ≤ 450 → negℤ (pos 4000) ≤ℤ θ → θ ≤ℤ pos 25000 →
+    In (low * 7300000) (high * 20350000) (resistance field α θ)
+unfolding resistance
+resistance-range low high {α = α} θ field α≤ cold hot =
+    let factor : FactorRange (temperatureFactor α θ) = temperatureFactor-range α θ α≤ cold hot in
+    record { least = mul-le-mul (field .least) (factor .least); most = mul-le-mul (field .most) (factor .most) }
+
+pub reactance-range : {f : ℕ} → In 1000 6500 f → In 125663706144 816814089936 (reactance f)
+unfolding reactance piHigh
+reactance-range p = record { least = up-least-below _ _ (lit< tt) (omega arith); most = up-least _ _ (lit< tt) (omega arith) }
+
+pub reactanceLow-most : {f : ℕ} → f ≤ 6500 → reactanceLow f ≤ 816814089910
+unfolding reactanceLow piLow
+reactanceLow-most f≤ = down-most-above _ _ (lit< tt) (omega arith)
+
+pub skinReactance-most : {f k : ℕ} → f ≤ 6500 → k ≤ 1000 → skinReactance f k ≤ 1633628179872
+unfolding skinReactance piHigh
+skinReactance-most {f} {k} f≤ k≤ = up-least _ _ (lit< tt) (omega (arith, mul-le-mul f≤ k≤))
+
+pub skinRatioSquared-most : {z : ℕ} → z ≤ 7840000000000 → skinRatioSquared z ≤ 61465600000000
+unfolding skinRatioSquared tera
+skinRatioSquared-most z≤ = up-least _ _ (lit< tt) (omega (arith, mul-le-mul z≤ z≤))
+
+pub factor-most : {w : ℕ} → w ≤ 61465600000000 → factor w ≤ 254900000000
+unfolding factor tera
+factor-most w≤ = up-least _ _ (omega arith) (omega arith)
+
+pub spacingRatio-most : {dc s : ℕ} → 0 < s → dc ≤ s → spacingRatio dc s ≤ 1000000000000
+unfolding spacingRatio tera
+spacingRatio-most s>0 dc≤s = up-least _ _ (mul-pos s>0 s>0) (omega (arith, mul-le-mul dc≤s dc≤s))
+
+pub proximityH-most : {g : ℕ} → g ≤ 254900000000 → proximityH g ≤ 600000000000
+unfolding proximityH tera
+proximityH-most g≤ = up-least _ _ (omega arith) (omega arith)
+
+pub proximityG-most : {u g : ℕ} → u ≤ 1000000000000 → g ≤ 254900000000 → proximityG u g ≤ 80000000000
+unfolding proximityG
+proximityG-most u≤ g≤ = up-least _ _ (lit< tt) (omega (arith, mul-le-mul u≤ g≤))
+
+pub proximityFactor-most : {u g : ℕ} → u ≤ 1000000000000 → g ≤ 254900000000 → proximityFactor u g ≤ 680000000000
+unfolding proximityFactor tera
+proximityFactor-most {u} {g} u≤ g≤ =
+    let inner : proximityG u g + proximityH g ≤ 680000000000 = omega (arith, proximityG-most u≤ g≤, proximityH-most g≤) in
+    up-least _ _ (lit< tt) (omega (arith, mul-le-mul u≤ inner))
+
+pub acResistance-range :
+    {r' ys yp : ℕ} → In 36500000000 407000000000000 r' → ys ≤ 254900000000 → yp ≤ 680000000000 →
+    In 36500000000 788000000000000 (acResistance r' ys yp)
+unfolding acResistance tera
+acResistance-range {r'} {ys} {yp} r'-range ys≤ yp≤ =
+    record {
+      least = up-least-below _ _ (lit< tt) (omega (arith, mul-le-mul-right 1000000000000 (r'-range .least)));
+      most = up-least _ _ (lit< tt) (omega (arith, mul-le-mul (r'-range .most) sum≤));
+    }
+  where
+    sum≤ : 1000000000000 + ys + yp ≤ 1934900000000
+    sum≤ = omega arith
+
+-- a third of ln 2 or nothing
+third-most : (is-two : Bool) (third : ℕ) → cond is-two third 0 ≤ third
+third-most true third = omega arith
+third-most false third = omega arith
+
+pub spacingLogHigh-most : (arrangement s d : ℕ) → 0 < d → d ≤ 2 * s → 2 * s < 32768 * d → spacingLogHigh arrangement s d ≤ 18601776254712
+unfolding spacingLogHigh ln2ThirdHigh
+spacingLogHigh-most arrangement s d d>0 d≤ <d =
+    omega (arith, logHigh-most (2 * s) d d>0 d≤ <d, third-most (eqb arrangement 2) 231049060187)
+
+pub spacingLogLow-most : (arrangement s d : ℕ) → 0 < d → d ≤ 2 * s → 2 * s < 32768 * d → spacingLogLow arrangement s d ≤ 18601776254712
+unfolding spacingLogLow ln2ThirdLow
+spacingLogLow-most arrangement s d d>0 d≤ <d =
+    omega (arith, logLow-most (2 * s) d d>0 d≤ <d, third-most (eqb arrangement 2) 231049060186)
+
+pub sheathReactance-most : {b l : ℕ} → b ≤ 816814089936 → l ≤ 18601776254712 → sheathReactance b l ≤ 15200000000000
+unfolding sheathReactance tera
+sheathReactance-most b≤ l≤ = up-least _ _ (lit< tt) (omega (arith, mul-le-mul b≤ l≤))
+
+pub sheathReactanceLow-most : {b l : ℕ} → b ≤ 816814089936 → l ≤ 18601776254712 → sheathReactanceLow b l ≤ 15200000000000
+unfolding sheathReactanceLow tera
+sheathReactanceLow-most b≤ l≤ = down-most-above _ _ (lit< tt) (omega (arith, mul-le-mul b≤ l≤))
+
+-- The sheath.
+
+pub bondRatio-most : {x rs : ℕ} → x ≤ 15200000000000 → 7300000000 ≤ rs → bondRatio x rs ≤ 2083000000000000
+unfolding bondRatio tera
+bondRatio-most x≤ rs≥ = up-least _ _ (omega arith) (omega arith)
+
+pub bondRatioSquared-most : {v : ℕ} → v ≤ 2083000000000000 → bondRatioSquared v ≤ 4338889000000000000
+unfolding bondRatioSquared tera
+bondRatioSquared-most v≤ = up-least _ _ (lit< tt) (omega (arith, mul-le-mul v≤ v≤))
+
+pub circulatingLoss-most : (x rs : ℕ) → circulatingLoss x rs ≤ rs
+unfolding circulatingLoss tera
+circulatingLoss-most x rs = up-least _ _ (omega arith) (omega arith)
+
+pub slLoss-most : (x : ℕ) {rs : ℕ} → rs ≤ 407000000000000 → slLoss x rs ≤ 610500000000000
+unfolding slLoss threeHalves
+slLoss-most x {rs} rs≤ = up-least _ _ (lit< tt) (omega (arith, circulatingLoss-most x rs))
+
+pub eddyRatio-most : (b : ℕ) {rs : ℕ} → 0 < rs → 5 * b ≤ rs → eddyRatio b rs ≤ 100000000000
+unfolding eddyRatio tera
+eddyRatio-most b rs>0 b≤ = up-least _ _ (omega arith) (omega arith)
+
+pub eddyRatioSquared-most : {m : ℕ} → m ≤ 100000000000 → eddyRatioSquared m ≤ 10000000000
+unfolding eddyRatioSquared tera
+eddyRatioSquared-most m≤ = up-least _ _ (lit< tt) (omega (arith, mul-le-mul m≤ m≤))
+
+pub eddyFactor-most : {m2 : ℕ} → m2 ≤ 10000000000 → eddyFactor m2 ≤ 10000000000
+unfolding eddyFactor tera
+eddyFactor-most m2≤ = up-least _ _ (omega arith) (omega arith)
+
+pub eddySpacing-most : {d s : ℕ} → 0 < s → d ≤ s → eddySpacing d s ≤ 250000000000
+unfolding eddySpacing tera
+eddySpacing-most s>0 d≤s = up-least _ _ (omega (arith, mul-pos s>0 s>0)) (omega (arith, mul-le-mul d≤s d≤s))
+
+-- the sheath's eddy loss of one core, the inner up(Rs e'/T)
+pub eddyInner-most : {rs e' : ℕ} → rs ≤ 407000000000000 → e' ≤ 10000000000 → up (rs * e') tera ≤ 4070000000000
+unfolding tera
+eddyInner-most rs≤ e'≤ = up-least _ _ (lit< tt) (omega (arith, mul-le-mul rs≤ e'≤))
+
+pub eddyLoss-most :
+    {j rs d s : ℕ} (b : ℕ) → j ≤ 2 → 0 < rs → rs ≤ 407000000000000 → 5 * b ≤ rs → 0 < s → d ≤ s → eddyLoss j b rs d s ≤ 610500000000000
+unfolding eddyLoss tera
+eddyLoss-most {j} {rs} {d} {s} b j≤ rs>0 rs≤ b≤ s>0 d≤s =
+    let e' = eddyFactor (eddyRatioSquared (eddyRatio b rs)) in
+    let inner≤ : up (rs * e') 1000000000000 ≤ 4070000000000 =
+    eddyInner-most rs≤ (eddyFactor-most (eddyRatioSquared-most (eddyRatio-most b rs>0 b≤)))
+    in
+    let j3≤ : 3 * j ≤ 6 = omega arith in
+    let cores≤ : 3 * j * up (rs * e') 1000000000000 ≤ 6 * 4070000000000 = mul-le-mul j3≤ inner≤ in
+    up-least _ _ (lit< tt) (le-trans (mul-le-mul cores≤ (eddySpacing-most s>0 d≤s)) (lit≤ tt))
+
+-- The armour.
+
+pub armourRatio-most : {ra b : ℕ} → ra ≤ 407000000000000 → 125663706144 ≤ b → armourRatio ra b ≤ 1795000000000000
+unfolding armourRatio
+armourRatio-most ra≤ b≥ = down-most-above _ _ (omega arith) (omega arith)
+
+pub armourRatioSquared-most : {y : ℕ} → y ≤ 1795000000000000 → armourRatioSquared y ≤ 3222025000000000000
+unfolding armourRatioSquared tera
+armourRatioSquared-most y≤ = down-most-above _ _ (lit< tt) (omega (arith, mul-le-mul y≤ y≤))
+
+pub armourResistance-most : (ra b : ℕ) → armourResistance ra b ≤ ra
+unfolding armourResistance tera
+armourResistance-most ra b = up-least _ _ (omega arith) (omega arith)
+
+pub armourSpacing-most : (c : ℕ) {dA : ℕ} → 0 < dA → 2 * c ≤ dA → up (4 * (c * c) * tera) (dA * dA) ≤ 1000000000000
+unfolding tera
+armourSpacing-most c dA>0 c≤ = up-least _ _ (mul-pos dA>0 dA>0) (omega (arith, mul-le-mul c≤ c≤))
+
+pub unscreenedLoss-most : {ra dA : ℕ} (b c : ℕ) → ra ≤ 407000000000000 → 0 < dA → 2 * c ≤ dA → unscreenedLoss ra b c dA ≤ 500610000000000
+unfolding unscreenedLoss
+unscreenedLoss-most {ra} b c ra≤ dA>0 c≤ =
+    let r≤ : 123 * armourResistance ra b ≤ 50061000000000000 = omega (arith, armourResistance-most ra b) in
+    up-least _ _ (lit< tt) (le-trans (mul-le-mul r≤ (armourSpacing-most c dA>0 c≤)) (lit≤ tt))
+
+pub screeningRatio-most : {x rs : ℕ} → x ≤ 15200000000000 → 7300000000 ≤ rs → down (x * tera) rs ≤ 2083000000000000
+unfolding tera
+screeningRatio-most x≤ rs≥ = down-most-above _ _ (omega arith) (omega arith)
+
+pub screeningRatioSquared-most :
+    {x rs : ℕ} → x ≤ 15200000000000 → 7300000000 ≤ rs → screeningRatioSquared x rs ≤ 4338889000000000000
+unfolding screeningRatioSquared tera
+screeningRatioSquared-most x≤ rs≥ =
+    down-most-above _ _ (lit< tt) (omega (arith, mul-le-mul (screeningRatio-most x≤ rs≥) (screeningRatio-most x≤ rs≥)))
+
+pub screening-most : (v2 : ℕ) → up (tera * tera) (tera + v2) ≤ 1000000000000
+unfolding tera
+screening-most v2 = up-least _ _ (omega arith) (omega arith)
+
+pub screenedLoss-most : {w : ℕ} (x rs : ℕ) → w ≤ 500610000000000 → screenedLoss w x rs ≤ 500610000000000
+unfolding screenedLoss tera
+screenedLoss-most x rs w≤ =
+    up-least _ _ (lit< tt) (mul-le-mul w≤ (screening-most (screeningRatioSquared x rs)))
+
+-- The dielectric loss.
+
+pub dielectricLoss-most :
+    {k b l : ℕ} → k ≤ 720000000000000000 → b ≤ 816814089936 → 48780487804 ≤ l → up (k * b) (360 * l) ≤ 33500000000000000
+dielectricLoss-most k≤ b≤ l≥ = up-least _ _ (omega arith) (omega (arith, mul-le-mul k≤ b≤))
+
+pub dielectricResistance-most :
+    {n t1 t2 t3 t4 : ℕ} → n ≤ 3 → t1 ≤ 10000000 → t2 ≤ 10000000 → t3 ≤ 10000000 → t4 ≤ 20000000 →
+    dielectricResistance n t1 t2 t3 t4 ≤ 250000000
+unfolding dielectricResistance
+dielectricResistance-most {n} {t2 = t2} {t3} {t4} n≤ t1≤ t2≤ t3≤ t4≤ =
+    let outer≤ : t2 + t3 + t4 ≤ 40000000 = omega arith in
+    omega (arith, mul-le-mul n≤ outer≤)
+
+pub dielectricRise-most :
+    {n wd t1 t2 t3 t4 : ℕ} → n ≤ 3 → wd ≤ 33500000000000000 → t1 ≤ 10000000 → t2 ≤ 10000000 → t3 ≤ 10000000 → t4 ≤ 20000000 →
+    dielectricRise n wd t1 t2 t3 t4 ≤ 4187500000000000
+unfolding dielectricRise
+dielectricRise-most n≤ wd≤ t1≤ t2≤ t3≤ t4≤ =
+    up-least _ _ (lit< tt) (mul-le-mul wd≤ (dielectricResistance-most n≤ t1≤ t2≤ t3≤ t4≤))
+
+-- The rise at unit current.
+
+pub unitRise-least : (n s w t2 t3 t4 : ℕ) {r t1 : ℕ} → 36500000000 ≤ r → 1000 ≤ t1 → 36500000 ≤ unitRise n r s w t1 t2 t3 t4
+unfolding unitRise
+unitRise-least n s w t2 t3 t4 {r} {t1} r≥ t1≥ =
+    let first : 36500000 ≤ up (r * t1) 1000000 = up-least-below _ _ (lit< tt) (omega (arith, mul-le-mul r≥ t1≥)) in
+    omega arith

@@ -1,0 +1,48 @@
+-- No entry of the tables is above 1000, and no coefficient above 450: one test that antt computes over each whole table. A
+-- conductor's metal is one of the table's.
+-- Assumes nothing.
+use mathlib.Core.Bool.{Bool, true, false, cond, _&&_}
+use mathlib.Core.List.{List, [], _∷_}
+use Prim.Native.Nat.{ℕ, zero, suc, _-_, _≤_}
+use native.Mathlib.Omega.{arith}
+use lib.Dec.{T, leb, leb→le}
+use lib.ListN.{getD}
+use Rattle.formulas.specs.Tables.{ksTable, kpTable, metalTable, entry, ks, kp, coefficient, conductorMetal}
+
+all-most : ℕ → List ℕ → Bool
+all-most m [] = true
+all-most m (n ∷ table) = leb n m && all-most m table
+
+left : (a b : Bool) → T (a && b) → T a
+left true b t = tt
+left false b t = t
+
+right : (a b : Bool) → T (a && b) → T b
+right true b t = t
+right false b t = absurd t
+
+getD-most : (m : ℕ) (table : List ℕ) → T (all-most m table) → (i : ℕ) → getD table i 0 ≤ m
+unfolding all-most
+getD-most m [] t i = omega arith
+getD-most m (n ∷ table) t zero = leb→le n m (left (leb n m) (all-most m table) t)
+getD-most m (n ∷ table) t (suc i) = getD-most m table (right (leb n m) (all-most m table) t) i
+
+pub ks-most : (code : ℕ) → ks code ≤ 1000
+unfolding ks entry ksTable all-most
+ks-most code = getD-most 1000 ksTable tt (code - 1)
+
+pub kp-most : (code : ℕ) → kp code ≤ 1000
+unfolding kp entry kpTable all-most
+kp-most code = getD-most 1000 kpTable tt (code - 1)
+
+pub coefficient-most : (metal : ℕ) → coefficient metal ≤ 450
+unfolding coefficient entry metalTable all-most
+coefficient-most metal = getD-most 450 metalTable tt (metal - 1)
+
+pub conductorMetal-range : (code : ℕ) → (1 ≤ conductorMetal code) × (conductorMetal code ≤ 6)
+unfolding conductorMetal
+conductorMetal-range code = go (leb code 3)
+  where
+    go : (copper : Bool) → (1 ≤ cond copper 3 2) × (cond copper 3 2 ≤ 6)
+    go true = omega arith
+    go false = omega arith

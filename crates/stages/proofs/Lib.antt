@@ -1,0 +1,4 @@
+pub mod Ends
+pub mod Quotients
+pub mod Series
+pub mod Signed

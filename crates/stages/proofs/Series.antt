@@ -1,0 +1,83 @@
+-- The thirteen terms of stage 5 as a loop adds them, stated once over the rounding: what holds before each turn, and that a turn
+-- keeps it. Assumes nothing.
+use mathlib.Core.Path.{_≡_, sym, ap, _∙_}
+use Prim.Native.Nat.{ℕ, suc, _+_, _-_, _*_, _/_, _^_, _≤_, _<_}
+use native.Mathlib.Nat.{zero-add, le-trans, lt-of-le-of-lt, div-mul-le-self, lt-div-mul-add}
+use native.Mathlib.Omega.{arith}
+use lib.Dec.{lit<, lit≤}
+use Rattle.exact.specs.Rounding.{up, down, up-only, down-only}
+use Rattle.formulas.specs.Constants.{tera}
+use Rattle.formulas.specs.Logarithm.{series, thirteenTerms}
+use Rattle.formulas.specs.Laws.LogRange.{Bounded, power-most, term-most}
+
+-- before term j the sum and the terms that are left make the whole, and every number is small
+pub record Summed (round : ℕ → ℕ → ℕ) (first q p sum j : ℕ) : Type 0 where
+  pub whole : sum + series round q (13 - j) j p ≡ thirteenTerms round first
+  pub ratio : q ≤ 333333333334
+  pub power : p ≤ 333333333334
+  pub total : sum ≤ j * 666666666668
+  pub passed : j ≤ 13
+
+-- a power, or the first one, fits a limb
+pub fits : {n : ℕ} → n ≤ 333333333334 → n < 2 ^ 64
+fits h = lt-of-le-of-lt h (lit< tt)
+
+module _ {round : ℕ → ℕ → ℕ} (bounded : Bounded round) where
+  pub product-most : (p q : ℕ) → p ≤ 333333333334 → q ≤ 333333333334 → round (p * q) 1000000000000 ≤ 333333333334
+  unfolding tera
+  product-most p q p≤ q≤ = power-most bounded p q 333333333334 (le-trans q≤ (lit≤ tt)) p≤
+
+  pub begin : {first q : ℕ} → first ≤ 333333333334 → q ≡ round (first * first) 1000000000000 → Summed round first q first 0 0
+  unfolding thirteenTerms tera
+  begin {first} {q} first≤ q-is =
+      record {
+        whole = zero-add _ ∙ ap (λ x. series round x 13 0 first) q-is;
+        ratio = omega (arith, product-most first first first≤ first≤);
+        power = first≤;
+        total = omega arith;
+        passed = omega arith;
+      }
+
+  -- a turn adds term j and goes on to the next power
+  module _
+      {first q p sum j term : ℕ}
+      (s : Summed round first q p sum j)
+      (j<13 : j < 13)
+      (term-is : term ≡ round (2 * p) (2 * j + 1)) where
+    pub more-total : sum + term ≤ (j + 1) * 666666666668
+    more-total = omega (arith, term-most bounded p j 333333333334 (s .power))
+
+    pub more : {next : ℕ} → next ≡ round (p * q) 1000000000000 → Summed round first q next (sum + term) (j + 1)
+    unfolding series tera
+    more {next} next-is =
+        let left : 13 - j ≡ suc (13 - (j + 1)) = omega arith in
+        record {
+          whole =
+              omega (
+                arith,
+                ap (λ n. series round q n j p) left,
+                ap (λ x. series round q (13 - (j + 1)) (j + 1) x) next-is,
+              );
+          ratio = s .ratio;
+          power = omega (arith, product-most p q (s .power) (s .ratio));
+          total = more-total;
+          passed = omega arith;
+        }
+
+pub done : {round : ℕ → ℕ → ℕ} {first q p sum j : ℕ} → Summed round first q p sum j → 13 ≤ j → sum ≡ thirteenTerms round first
+unfolding series
+done {round} {q = q} {p} {j = j} s h =
+    let none : 13 - j ≡ 0 = omega arith in
+    omega (arith, ap (λ n. series round q n j p) none)
+
+-- the code's quotient is the term, rounded up or down
+
+pub term-up : (p j : ℕ) → (2 * p + 2 * j) / (2 * j + 1) ≡ up (2 * p) (2 * j + 1)
+term-up p j =
+    let n = 2 * p + 2 * j in
+    let d = 2 * j + 1 in
+    let above : n < n / d * d + d = lt-div-mul-add (omega arith) in
+    sym (up-only (2 * p) d (n / d) (omega arith) (omega (arith, div-mul-le-self n d)))
+
+pub term-down : (p j : ℕ) → 2 * p / (2 * j + 1) ≡ down (2 * p) (2 * j + 1)
+term-down p j = sym (down-only (2 * p) (2 * j + 1) _ (div-mul-le-self _ _) (lt-div-mul-add (omega arith)))

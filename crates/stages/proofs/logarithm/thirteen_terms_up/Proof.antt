@@ -1,0 +1,82 @@
+-- `stages::logarithm::thirteen_terms_up` meets its contract: its loop is the one of Series.antt with every quotient rounded up.
+-- Assumes nothing.
+use Prim.Native.Nat.{_-_}
+use native.Mathlib.Omega.{arith}
+use Rattle.exact.specs.Rounding.{up}
+use Rattle.formulas.specs.Laws.LogRange.{up-bounded}
+use Rattle.stages.proofs.Series.{Summed, fits, product-most, begin, more-total, more, done, term-up}
+use Rattle.stages.proofs.logarithm.thirteen_terms_up.Statement.{statement}
+use Rattle.stages.proofs.logarithm.thirteen_terms_up.Tie as tie
+
+abbrev Inv-loop : tie.InvT-loop
+Inv-loop first q p₀ sum₀ j₀ p sum j = Summed up first q p sum j
+
+abbrev μ-loop : tie.MeasureT-loop
+μ-loop first q p₀ sum₀ j₀ p sum j = 13 - j
+
+mul-div-up-trillion-requires : tie.Need-mul-div-up-trillion-requires Inv-loop μ-loop
+mul-div-up-trillion-requires c κs = fits (product-most up-bounded _ _ (c .pre) (c .pre))
+
+loop-holds : tie.Need-loop-holds Inv-loop μ-loop
+loop-holds c = begin up-bounded (c .before .pre) (c .mul-div-up-trillion .ensures)
+
+mul-sum : tie.Need-mul-sum Inv-loop μ-loop
+mul-sum c = omega arith
+
+mul-sum-2 : tie.Need-mul-sum-2 Inv-loop μ-loop
+mul-sum-2 c = omega arith
+
+add-sum : tie.Need-add-sum Inv-loop μ-loop
+add-sum c = omega arith
+
+mul-sum-3 : tie.Need-mul-sum-3 Inv-loop μ-loop
+mul-sum-3 c = omega arith
+
+add-sum-2 : tie.Need-add-sum-2 Inv-loop μ-loop
+add-sum-2 c = omega arith
+
+div-sum : tie.Need-div-sum Inv-loop μ-loop
+div-sum c = omega arith
+
+add-sum-3 : tie.Need-add-sum-3 Inv-loop μ-loop
+add-sum-3 c = omega (arith, more-total up-bounded (c .before .loop .inv) (c .loop-test .taken) (term-up _ _))
+
+mul-div-up-trillion-requires-2 : tie.Need-mul-div-up-trillion-requires-2 Inv-loop μ-loop
+mul-div-up-trillion-requires-2 c κs =
+    let s = c .before .loop .inv in
+    fits (product-most up-bounded _ _ (s .power) (s .ratio))
+
+add-j : tie.Need-add-j Inv-loop μ-loop
+add-j c = omega arith
+
+loop-less : tie.Need-loop-less Inv-loop μ-loop
+loop-less c = omega arith
+
+loop-again : tie.Need-loop-again Inv-loop μ-loop
+loop-again c =
+    more up-bounded (c .before .before .loop .inv) (c .before .loop-test .taken) (term-up _ _)
+    (c .mul-div-up-trillion2 .ensures)
+
+returns : tie.Need-returns Inv-loop μ-loop
+returns c = done (c .before .loop .inv) (c .loop-test .left)
+
+pub thirteen-terms-up-spec : {M : Type 1} → statement M
+thirteen-terms-up-spec =
+    tie.close
+    (tie.spec
+    Inv-loop
+    μ-loop
+    mul-div-up-trillion-requires
+    loop-holds
+    mul-sum
+    mul-sum-2
+    add-sum
+    mul-sum-3
+    add-sum-2
+    div-sum
+    add-sum-3
+    mul-div-up-trillion-requires-2
+    add-j
+    loop-less
+    loop-again
+    returns)

@@ -1,0 +1,35 @@
+-- `stages::proximity::ac_resistance` is the definition: one quotient.
+use borrow.Author.Needs.{needs}
+use native.Mathlib.Omega.{arith}
+use native.Mathlib.Nat.{mul-le-mul}
+use lib.Dec.{lit<}
+use Rattle.formulas.specs.Constants.{tera}
+use Rattle.formulas.specs.Proximity.{acResistance}
+use Rattle.stages.proofs.Quotients.{fits-up}
+use Prim.Native.Nat.{_+_, _≤_}
+use Rattle.stages.proofs.proximity.ac_resistance.Statement.{statement}
+use Rattle.stages.proofs.proximity.ac_resistance.Tie as tie
+
+add-mul-div-up-trillion : tie.Need-add-mul-div-up-trillion
+add-mul-div-up-trillion c = search needs
+
+add-mul-div-up-trillion-2 : tie.Need-add-mul-div-up-trillion-2
+add-mul-div-up-trillion-2 c = search needs
+
+mul-div-up-trillion-requires : tie.Need-mul-div-up-trillion-requires
+mul-div-up-trillion-requires c κs =
+    let sum≤ : 1000000000000 + c .args .ys + c .args .yp ≤ 1934900000000 = omega arith in
+    fits-up 788000000000000 (lit< tt) (omega (arith, mul-le-mul (c .pre .0) sum≤)) tt
+
+returns : tie.Need-returns
+unfolding acResistance tera
+returns c = c .mul-div-up-trillion .ensures
+
+pub ac-resistance-spec : {M : Type 1} → statement M
+ac-resistance-spec =
+    tie.close
+    (tie.spec
+    add-mul-div-up-trillion
+    add-mul-div-up-trillion-2
+    mul-div-up-trillion-requires
+    returns)

@@ -1,0 +1,25 @@
+-- `stages::rating::rating` is the definition: a quotient, and the root of it.
+use borrow.Author.Needs.{needs}
+use mathlib.Core.Path.{_∙_, ap}
+use native.Mathlib.Omega.{arith}
+use Rattle.exact.specs.Root.{root, root-is, root-only}
+use Rattle.formulas.specs.Rating.{rating}
+use Rattle.stages.proofs.Quotients.{fits-down}
+use Rattle.stages.proofs.rating.rating.Statement.{statement}
+use Rattle.stages.proofs.rating.rating.Tie as tie
+
+mul-div-down-requires : tie.Need-mul-div-down-requires
+mul-div-down-requires c κs = (omega arith, fits-down 80000000000000000 (omega arith) (omega arith) tt)
+
+root-requires : tie.Need-root-requires
+root-requires c κs = search needs
+
+returns : tie.Need-returns
+unfolding rating
+returns c =
+    let q = c .before .mul-div-down .result in
+    let p = c .root .ensures in
+    root-only (record { below = p .0; above = p .1 }) (root-is q) ∙ ap root (c .before .mul-div-down .ensures)
+
+pub rating-spec : {M : Type 1} → statement M
+rating-spec = tie.close (tie.spec mul-div-down-requires root-requires returns)

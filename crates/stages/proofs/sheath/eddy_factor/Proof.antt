@@ -1,0 +1,63 @@
+-- `stages::sheath::eddy_factor` is the definition: m, its square, and the quotient of that.
+use borrow.Author.Needs.{needs}
+use mathlib.Core.Path.{_∙_, ap, _≡_}
+use native.Mathlib.Omega.{arith}
+use native.Mathlib.Nat.{mul-le-mul}
+use lib.Dec.{lit<}
+use Rattle.exact.specs.Rounding.{up}
+use Rattle.formulas.specs.Constants.{tera}
+use Rattle.formulas.specs.Sheath.{eddyRatio, eddyRatioSquared, eddyFactor}
+use Rattle.formulas.specs.Laws.Ranges.{eddyRatio-most, eddyRatioSquared-most}
+use Rattle.stages.proofs.Quotients.{fits-up}
+use Prim.Native.Nat.{_+_, _*_, _≤_}
+use Rattle.stages.proofs.sheath.eddy_factor.Statement.{statement}
+use Rattle.stages.proofs.sheath.eddy_factor.Tie as tie
+
+m-is : (c : tie.After-mul-div-up) → c .mul-div-up .result ≡ eddyRatio (c .before .args .b) (c .before .args .rs)
+unfolding eddyRatio tera
+m-is c = c .mul-div-up .ensures
+
+m-most : (c : tie.After-mul-div-up) → c .mul-div-up .result ≤ 100000000000
+m-most c = omega (arith, m-is c, eddyRatio-most (c .before .args .b) (c .before .pre .0) (c .before .pre .2))
+
+m2-is :
+    (c : tie.After-mul-div-up-trillion) →
+    c .mul-div-up-trillion .result ≡ eddyRatioSquared (eddyRatio (c .before .before .args .b) (c .before .before .args .rs))
+unfolding eddyRatioSquared tera
+m2-is c = c .mul-div-up-trillion .ensures ∙ ap (λ m. up (m * m) 1000000000000) (m-is (c .before))
+
+m2-most : (c : tie.After-mul-div-up-trillion) → c .mul-div-up-trillion .result ≤ 10000000000
+m2-most c =
+    let pre = c .before .before .pre in
+    omega (arith, m2-is c, eddyRatioSquared-most (eddyRatio-most (c .before .before .args .b) (pre .0) (pre .2)))
+
+mul-mul-div-up : tie.Need-mul-mul-div-up
+mul-mul-div-up c = search needs
+
+mul-div-up-requires : tie.Need-mul-div-up-requires
+mul-div-up-requires c κs = (omega arith, fits-up 100000000000 (omega arith) (omega arith) tt)
+
+mul-div-up-trillion-requires : tie.Need-mul-div-up-trillion-requires
+mul-div-up-trillion-requires c κs = fits-up 10000000000 (lit< tt) (omega (arith, mul-le-mul (m-most c) (m-most c))) tt
+
+add-mul-div-up : tie.Need-add-mul-div-up
+add-mul-div-up c = omega (arith, m2-most c)
+
+mul-div-up-requires-2 : tie.Need-mul-div-up-requires-2
+mul-div-up-requires-2 c κs = (omega arith, fits-up 10000000000 (omega arith) (omega (arith, m2-most c)) tt)
+
+returns : tie.Need-returns
+unfolding eddyFactor tera
+returns c =
+    c .mul-div-up2 .ensures ∙ ap (λ m2. up (m2 * 1000000000000) (1000000000000 + m2)) (m2-is (c .before))
+
+pub eddy-factor-spec : {M : Type 1} → statement M
+eddy-factor-spec =
+    tie.close
+    (tie.spec
+    mul-mul-div-up
+    mul-div-up-requires
+    mul-div-up-trillion-requires
+    add-mul-div-up
+    mul-div-up-requires-2
+    returns)

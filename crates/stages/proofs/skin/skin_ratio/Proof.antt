@@ -1,0 +1,31 @@
+-- `stages::skin::skin_ratio` is the definition: one quotient, of the A that `skin_reactance` gives.
+use borrow.Author.Needs.{needs}
+use mathlib.Core.Path.{_∙_, ap}
+use native.Mathlib.Omega.{arith}
+use Rattle.exact.specs.Rounding.{up}
+use Rattle.formulas.specs.Constants.{tera}
+use Rattle.formulas.specs.Skin.{skinRatio}
+use Rattle.formulas.specs.Laws.Ranges.{skinReactance-most}
+use Rattle.stages.proofs.Quotients.{fits-up}
+use Prim.Native.Nat.{_*_, _≤_}
+use Rattle.stages.proofs.skin.skin_ratio.Statement.{statement}
+use Rattle.stages.proofs.skin.skin_ratio.Tie as tie
+
+skin-reactance-requires : tie.Need-skin-reactance-requires
+skin-reactance-requires c κs = search needs
+
+mul-div-up-requires : tie.Need-mul-div-up-requires
+mul-div-up-requires c κs =
+    let a≤ : c .skin-reactance .result ≤ 1633628179872 =
+    omega (arith, skinReactance-most (c .before .pre .0) (c .before .pre .1), c .skin-reactance .ensures)
+    in
+    (omega arith, fits-up 45000000000000 (omega arith) (omega arith) tt)
+
+returns : tie.Need-returns
+unfolding skinRatio tera
+returns c =
+    c .mul-div-up .ensures
+    ∙ ap (λ a. up (a * 1000000000000) (c .before .before .args .rc)) (c .before .skin-reactance .ensures)
+
+pub skin-ratio-spec : {M : Type 1} → statement M
+skin-ratio-spec = tie.close (tie.spec skin-reactance-requires mul-div-up-requires returns)

@@ -1,0 +1,27 @@
+-- `stages::skin::skin_reactance` is the definition, as code rounds up.
+use borrow.Author.Needs.{needs}
+use mathlib.Core.Path.{sym}
+use native.Mathlib.Omega.{arith}
+use native.Mathlib.Nat.{mul-le-mul}
+use Rattle.exact.specs.Rounding.{up-code}
+use Rattle.formulas.specs.Constants.{piHigh}
+use Rattle.formulas.specs.Skin.{skinReactance}
+use Prim.Native.Nat.{_*_}
+use Rattle.stages.proofs.skin.skin_reactance.Statement.{statement}
+use Rattle.stages.proofs.skin.skin_reactance.Tie as tie
+
+mul-result : tie.Need-mul-result
+mul-result c = search needs
+
+mul-result-2 : tie.Need-mul-result-2
+mul-result-2 c = omega (arith, mul-le-mul (c .pre .0) (c .pre .1))
+
+add-result : tie.Need-add-result
+add-result c = omega (arith, mul-le-mul (c .pre .0) (c .pre .1))
+
+returns : tie.Need-returns
+unfolding skinReactance piHigh
+returns c = sym (up-code (c .args .f * 31415926536 * c .args .k) 125000)
+
+pub skin-reactance-spec : {M : Type 1} → statement M
+skin-reactance-spec = tie.close (tie.spec mul-result mul-result-2 add-result returns)

@@ -1,0 +1,78 @@
+// Stage 5: the two ends of a logarithm. Each loop is one of the paper's sums.
+ghost use mathlib.Core.Path.{_≡_};
+ghost use Prim.Native.Nat.{_*_, _≤_, _<_};
+ghost use Rattle.exact.specs.Rounding.{up, down};
+ghost use Rattle.formulas.specs.Logarithm.{octaves, doubled, thirteenTerms, logLow, logHigh};
+use wide::ratio::mul_div_down;
+use wide::ratio::mul_div_up;
+use wide::trillion::mul_div_down_trillion;
+use wide::trillion::mul_div_up_trillion;
+
+// How often b can be doubled, and b doubled that often.
+pub struct Doubled {
+    pub count: u64,
+    pub doubled: u64,
+}
+
+fn octaves(a: u64, b: u64) -> Doubled
+    requires { ⌜ (0 < b) × (b ≤ a) × (a ≤ 2000000) ⌝ }
+    ensures { λ r. ⌜ (r .count ≡ octaves a b) × (r .doubled ≡ doubled a b) ⌝ }
+{
+    let mut count: u64 = 0;
+    let mut doubled = b;
+    while 2 * doubled <= a {
+        count += 1;
+        doubled = 2 * doubled;
+    }
+    Doubled { count, doubled }
+}
+
+fn thirteen_terms_up(first: u64) -> u64
+    requires { ⌜ first ≤ 333333333334 ⌝ }
+    ensures { λ r. ⌜ r ≡ thirteenTerms up first ⌝ }
+{
+    let q = mul_div_up_trillion(first, first);
+    let mut p = first;
+    let mut sum: u64 = 0;
+    let mut j: u64 = 0;
+    while j < 13 {
+        sum += (2 * p + 2 * j) / (2 * j + 1);
+        p = mul_div_up_trillion(p, q);
+        j += 1;
+    }
+    sum
+}
+
+fn thirteen_terms_down(first: u64) -> u64
+    requires { ⌜ first ≤ 333333333334 ⌝ }
+    ensures { λ r. ⌜ r ≡ thirteenTerms down first ⌝ }
+{
+    let q = mul_div_down_trillion(first, first);
+    let mut p = first;
+    let mut sum: u64 = 0;
+    let mut j: u64 = 0;
+    while j < 13 {
+        sum += 2 * p / (2 * j + 1);
+        p = mul_div_down_trillion(p, q);
+        j += 1;
+    }
+    sum
+}
+
+pub fn log_high(a: u64, b: u64) -> u64
+    requires { ⌜ (0 < b) × (b ≤ a) × (a ≤ 2000000) × (a < 32768 * b) ⌝ }
+    ensures { λ r. ⌜ r ≡ logHigh a b ⌝ }
+{
+    let k = octaves(a, b);
+    let p = mul_div_up(a - k.doubled, 1000000000000, a + k.doubled);
+    thirteen_terms_up(p) + 1 + 693147180560 * k.count
+}
+
+pub fn log_low(a: u64, b: u64) -> u64
+    requires { ⌜ (0 < b) × (b ≤ a) × (a ≤ 2000000) × (a < 32768 * b) ⌝ }
+    ensures { λ r. ⌜ r ≡ logLow a b ⌝ }
+{
+    let k = octaves(a, b);
+    let p = mul_div_down(a - k.doubled, 1000000000000, a + k.doubled);
+    thirteen_terms_down(p) + 693147180559 * k.count
+}

@@ -1,0 +1,2 @@
+pub mod Temperatures
+pub mod Tests

@@ -1,0 +1,53 @@
+-- `sheath_resistance` is the definition: stage 1 within the limits of the fields.
+use borrow.Author.Needs.{needs}
+use mathlib.Core.Path.{_∙_}
+use native.Mathlib.Omega.{arith}
+use Rattle.formulas.specs.Resistance.{resistance}
+use Rattle.formulas.specs.Laws.TableRange.{coefficient-most}
+use Rattle.rating.specs.Sound.{Sound, sound}
+use Rattle.rating.specs.Fields.{word, temperature}
+use Rattle.rating.specs.Values.{rsOf}
+use lib.ListN.{getD}
+use Rattle.rating.proofs.case.sheath_resistance.Statement.{statement}
+use Rattle.rating.proofs.case.sheath_resistance.Tie as tie
+
+array-read-resistance : tie.Need-array-read-resistance
+array-read-resistance c = search needs
+
+array-read-coefficient : tie.Need-array-read-coefficient
+array-read-coefficient c = search needs
+
+coefficient-requires : tie.Need-coefficient-requires
+coefficient-requires c κs =
+    let fine : Sound (c .args .t1) = sound _ (c .pre) in
+    (fine .sheathMetal .least, fine .sheathMetal .most)
+
+array-read-resistance-2 : tie.Need-array-read-resistance-2
+array-read-resistance-2 c = search needs
+
+resistance-requires : tie.Need-resistance-requires
+resistance-requires c κs =
+    let fine : Sound (c .before .args .t1) = sound _ (c .before .pre) in (
+      fine .sheathResistance .most,
+      omega (arith, c .coefficient .ensures, coefficient-most (getD (c .before .args .t1) 14 0)),
+      fine .sheathTemperature .least,
+      fine .sheathTemperature .most,
+    )
+
+returns : tie.Need-returns
+unfolding rsOf
+returns c =
+    let x = c .before .before .args .t1 in
+    let alpha = c .before .coefficient .ensures in
+    c .resistance .ensures ∙ (λ i. resistance (word x 15) (alpha i) (temperature x 16))
+
+pub sheath-resistance-spec : {M : Type 1} → statement M
+sheath-resistance-spec =
+    tie.close
+    (tie.spec
+    array-read-resistance
+    array-read-coefficient
+    coefficient-requires
+    array-read-resistance-2
+    resistance-requires
+    returns)

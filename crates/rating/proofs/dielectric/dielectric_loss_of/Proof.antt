@@ -1,0 +1,98 @@
+-- `dielectric_loss_of` is the definition: the logarithm of Di/ds is in its range, since refusal 5 keeps the insulation apart.
+use borrow.Author.Needs.{needs}
+use mathlib.Core.Path.{_≡_, _∙_}
+use native.Mathlib.Omega.{arith}
+use Rattle.formulas.specs.Logarithm.{logLow}
+use Rattle.formulas.specs.Dielectric.{dielectricLoss}
+use Rattle.rating.specs.Fields as Field
+use Rattle.rating.specs.Sound.{Sound, sound}
+use Rattle.rating.specs.Ranges.{b-range, insulationLog-range}
+use Rattle.rating.specs.Values.{wdOf}
+use Rattle.rating.proofs.dielectric.dielectric_loss_of.Statement.{statement}
+use Rattle.rating.proofs.dielectric.dielectric_loss_of.Tie as tie
+
+log-is :
+    (c : tie.After-log-low) →
+    let x = c .before .before .before .before .before .before .args .t1 in
+    c .log-low .result ≡ logLow (Field.insulationDiameter x) (Field.screenDiameter x)
+log-is c =
+    let di = c .before .before .long4 .ensures .0 in
+    let ds = c .before .long5 .ensures .0 in
+    c .log-low .ensures ∙ (λ i. logLow (di i) (ds i))
+
+array-read-long : tie.Need-array-read-long
+array-read-long c = search needs
+
+long-requires : tie.Need-long-requires
+long-requires c κs = search needs
+
+array-read-long-2 : tie.Need-array-read-long-2
+array-read-long-2 c = search needs
+
+long-requires-2 : tie.Need-long-requires-2
+long-requires-2 c κs = search needs
+
+array-read-long-3 : tie.Need-array-read-long-3
+array-read-long-3 c = search needs
+
+long-requires-3 : tie.Need-long-requires-3
+long-requires-3 c κs = search needs
+
+array-read-long-4 : tie.Need-array-read-long-4
+array-read-long-4 c = search needs
+
+long-requires-4 : tie.Need-long-requires-4
+long-requires-4 c κs = search needs
+
+array-read-long-5 : tie.Need-array-read-long-5
+array-read-long-5 c = search needs
+
+long-requires-5 : tie.Need-long-requires-5
+long-requires-5 c κs = search needs
+
+log-low-requires : tie.Need-log-low-requires
+log-low-requires c κs =
+    let start = c .before .before .before .before .before in
+    let fine : Sound (start .args .t1) = sound _ (start .pre .0) in
+    omega
+    (arith, c .long5 .ensures .0, c .before .long4 .ensures .0, fine .insulationDiameter, fine .screenDiameter, fine .insulated)
+
+dielectric-loss-requires : tie.Need-dielectric-loss-requires
+dielectric-loss-requires c κs =
+    let start = c .before .before .before .before .before .before in
+    let fine : Sound (start .args .t1) = sound _ (start .pre .0) in (
+      omega (arith, c .before .before .before .before .before .long .ensures .0, fine .permittivity),
+      omega (arith, c .before .before .before .before .long2 .ensures .0, fine .voltage),
+      omega (arith, c .before .before .before .long3 .ensures .0, fine .lossFactor),
+      omega (arith, start .pre .1, b-range fine),
+      omega (arith, log-is c, insulationLog-range fine),
+      omega (arith, log-is c, insulationLog-range fine),
+    )
+
+returns : tie.Need-returns
+unfolding wdOf
+returns c =
+    let e = c .before .before .before .before .before .before .long .ensures .0 in
+    let u0 = c .before .before .before .before .before .long2 .ensures .0 in
+    let t = c .before .before .before .before .long3 .ensures .0 in
+    let b = c .before .before .before .before .before .before .before .pre .1 in
+    let log = log-is (c .before) in
+    c .dielectric-loss .ensures ∙ (λ i. dielectricLoss (e i) (u0 i) (t i) (b i) (log i))
+
+pub dielectric-loss-of-spec : {M : Type 1} → statement M
+dielectric-loss-of-spec =
+    tie.close
+    (tie.spec
+    array-read-long
+    long-requires
+    array-read-long-2
+    long-requires-2
+    array-read-long-3
+    long-requires-3
+    array-read-long-4
+    long-requires-4
+    array-read-long-5
+    long-requires-5
+    log-low-requires
+    dielectric-loss-requires
+    returns)

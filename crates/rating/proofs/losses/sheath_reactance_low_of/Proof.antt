@@ -1,0 +1,89 @@
+-- `sheath_reactance_low_of` is the definition: X-.
+use borrow.Author.Needs.{needs}
+use mathlib.Core.Path.{_≡_, _∙_, ap}
+use native.Mathlib.Omega.{arith}
+use Rattle.formulas.specs.Reactance.{reactanceLow}
+use Rattle.formulas.specs.Spacing.{spacingLogLow, sheathReactanceLow}
+use Rattle.formulas.specs.Laws.Ranges.{reactanceLow-most}
+use Rattle.rating.specs.Fields as Field
+use Rattle.rating.specs.Sound.{Sound, sound}
+use Rattle.rating.specs.Ranges.{spacingLogLow-most}
+use Rattle.rating.specs.Values.{xLowOf}
+use Rattle.rating.proofs.losses.sheath_reactance_low_of.Statement.{statement}
+use Rattle.rating.proofs.losses.sheath_reactance_low_of.Tie as tie
+
+b-is : (c : tie.After-reactance-low) → c .reactance-low .result ≡ reactanceLow (Field.frequency (c .before .before .args .t1))
+b-is c = c .reactance-low .ensures ∙ ap reactanceLow (c .before .long .ensures .0)
+
+log-is :
+    (c : tie.After-spacing-log-low) →
+    let x = c .before .before .before .before .before .args .t1 in
+    c .spacing-log-low .result ≡ spacingLogLow (Field.arrangement x) (Field.spacing x) (Field.sheathDiameter x)
+log-is c =
+    let x = c .before .before .before .before .before .args .t1 in
+    let s = c .before .before .long2 .ensures .0 in
+    let d = c .before .long3 .ensures .0 in
+    c .spacing-log-low .ensures ∙ (λ i. spacingLogLow (Field.arrangement x) (s i) (d i))
+
+array-read-long : tie.Need-array-read-long
+array-read-long c = search needs
+
+long-requires : tie.Need-long-requires
+long-requires c κs = search needs
+
+reactance-low-requires : tie.Need-reactance-low-requires
+reactance-low-requires c κs =
+    let fine : Sound (c .before .args .t1) = sound _ (c .before .pre) in
+    omega (arith, c .long .ensures .0, fine .frequency)
+
+array-read-spacing-log-low : tie.Need-array-read-spacing-log-low
+array-read-spacing-log-low c = search needs
+
+array-read-long-2 : tie.Need-array-read-long-2
+array-read-long-2 c = search needs
+
+long-requires-2 : tie.Need-long-requires-2
+long-requires-2 c κs = search needs
+
+array-read-long-3 : tie.Need-array-read-long-3
+array-read-long-3 c = search needs
+
+long-requires-3 : tie.Need-long-requires-3
+long-requires-3 c κs = search needs
+
+spacing-log-low-requires : tie.Need-spacing-log-low-requires
+spacing-log-low-requires c κs =
+    let start = c .before .before .before .before in
+    let fine : Sound (start .args .t1) = sound _ (start .pre) in
+    omega (arith, c .long3 .ensures .0, c .before .long2 .ensures .0, fine .spacing, fine .sheathDiameter, fine .apart)
+
+sheath-reactance-low-requires : tie.Need-sheath-reactance-low-requires
+sheath-reactance-low-requires c κs =
+    let start = c .before .before .before .before .before in
+    let fine : Sound (start .args .t1) = sound _ (start .pre) in (
+      omega (arith, b-is (c .before .before .before), reactanceLow-most (fine .frequency .most)),
+      omega (arith, log-is c, spacingLogLow-most fine),
+    )
+
+returns : tie.Need-returns
+unfolding xLowOf
+returns c =
+    let b = b-is (c .before .before .before .before) in
+    let log = log-is (c .before) in
+    c .sheath-reactance-low .ensures ∙ (λ i. sheathReactanceLow (b i) (log i))
+
+pub sheath-reactance-low-of-spec : {M : Type 1} → statement M
+sheath-reactance-low-of-spec =
+    tie.close
+    (tie.spec
+    array-read-long
+    long-requires
+    reactance-low-requires
+    array-read-spacing-log-low
+    array-read-long-2
+    long-requires-2
+    array-read-long-3
+    long-requires-3
+    spacing-log-low-requires
+    sheath-reactance-low-requires
+    returns)

@@ -1,0 +1,37 @@
+-- `current_of` is the definition: refusal 10 leaves something of the rise, and E is large enough for the quotient to fit.
+use borrow.Author.Needs.{needs}
+use mathlib.Core.Path.{_∙_}
+use native.Mathlib.Omega.{arith}
+use Rattle.formulas.specs.Dielectric.{permittedRise, currentRise}
+use Rattle.formulas.specs.Rating.{rating}
+use Rattle.rating.specs.Sound.{sound}
+use Rattle.rating.specs.Rise.{rise-range}
+use Rattle.rating.specs.Values.{riseOf, currentOf}
+use Prim.Native.Nat.{_-_, _*_, _≤_}
+use Rattle.rating.proofs.rate.current_of.Statement.{statement}
+use Rattle.rating.proofs.rate.current_of.Tie as tie
+
+rise-most : (c : tie.Start) → c .args .permitted ≤ 29000
+unfolding riseOf
+rise-most c = omega (arith, c .pre .0 .1, rise-range (sound (c .args .x) (c .pre .0 .0)))
+
+mul-rating : tie.Need-mul-rating
+mul-rating c = omega (arith, rise-most c)
+
+sub-rating : tie.Need-sub-rating
+sub-rating c = search needs
+
+rating-requires : tie.Need-rating-requires
+rating-requires c κs = omega (arith, rise-most c)
+
+returns : tie.Need-returns
+unfolding currentOf currentRise permittedRise
+returns c =
+    let pre = c .before .pre in
+    let permitted = pre .0 .1 in
+    let dd = pre .0 .2 in
+    let e = pre .0 .3 in
+    c .rating .ensures ∙ (λ i. rating (10000000 * permitted i - dd i) (e i))
+
+pub current-of-spec : {M : Type 1} → statement M
+current-of-spec = tie.close (tie.spec mul-rating sub-rating rating-requires returns)

@@ -1,0 +1,12 @@
+-- `refuse` is the definition: rating 0 and a sheet of zeros.
+use mathlib.Core.Path.{refl}
+use Rattle.rating.specs.Rate.{refused}
+use Rattle.rating.proofs.rate.refuse.Statement.{statement}
+use Rattle.rating.proofs.rate.refuse.Tie as tie
+
+returns : tie.Need-returns
+unfolding refused
+returns c = refl
+
+pub refuse-spec : {M : Type 1} → statement M
+refuse-spec = tie.close (tie.spec returns)

@@ -1,0 +1,59 @@
+-- What `fields` gives, said of the words that are left: how the loop of `text::line::read_fields` goes on by one word, and where it stops.
+-- Assumes nothing.
+use mathlib.Core.List.{List, [], _∷_, _++_}
+use mathlib.Core.Path.{_≡_, refl, sym, ap, _∙_}
+use Prim.Native.Nat.{ℕ, suc, _+_, _-_, _≤_, _<_}
+use native.Mathlib.Nat.{add-sub-cancel-left}
+use lib.ListN.{length, take, drop}
+use lib.Seq.{drop-drop}
+use Rattle.text.specs.declared.number.Reading.{Reading}
+use Rattle.text.specs.Line.{Said, aCase, unreadable, before, field, fields}
+use Rattle.text.specs.Number.{readNumber}
+use Rattle.text.specs.Runs.{left, nothing-left}
+use Rattle.text.specs.Words.{run, isBlank, isInk, dropBlanks, word, dropWord}
+
+-- numbers in front of those that the rest says
+unfoldable pub after : List ℕ → Said → Said
+after [] r = r
+after (x ∷ xs) r = before x (after xs r)
+
+pub after-one : (xs : List ℕ) (x : ℕ) (r : Said) → after (xs ++ (x ∷ [])) r ≡ after xs (before x r)
+unfolding after
+after-one [] x r = refl
+after-one (y ∷ xs) x r = ap (before y) (after-one xs x r)
+
+pub after-unreadable : (xs : List ℕ) → after xs unreadable ≡ unreadable
+unfolding after before
+after-unreadable [] = refl
+after-unreadable (x ∷ xs) = ap (before x) (after-unreadable xs)
+
+pub after-none : (xs : List ℕ) → after xs (aCase []) ≡ aCase xs
+unfolding after before
+after-none [] = refl
+after-none (x ∷ xs) = ap (before x) (after-none xs)
+
+pub past-blanks : (s : List ℕ) (at from : ℕ) → from ≡ at + run isBlank (drop at s) → dropBlanks (drop at s) ≡ drop from s
+unfolding dropBlanks
+past-blanks s at from e = drop-drop (run isBlank (drop at s)) at s ∙ ap (λ (k : ℕ). drop k s) (sym e)
+
+-- the word from `from` to `to`, past the blanks from `at` on
+pub turn : (n : ℕ) (s : List ℕ) (at from to : ℕ) (r : Reading) → from ≡ at + run isBlank (drop at s)
+    → to ≡ from + run isInk (drop from s) → r ≡ readNumber (take (to - from) (drop from s))
+    → fields (suc n) (drop at s) ≡ field r (fields n (drop to s))
+unfolding fields word dropWord
+turn n s at from to r b w e =
+    let ink = run isInk (drop from s) in
+    let size : ink ≡ to - from = sym (add-sub-cancel-left from ink) ∙ ap (λ (k : ℕ). k - from) (sym w) in
+    ap (λ (t : List ℕ). field (readNumber (word t)) (fields n (dropWord t))) (past-blanks s at from b)
+    ∙ ap (λ (k : ℕ). field (readNumber (take k (drop from s))) (fields n (dropWord (drop from s)))) size
+    ∙ ap (λ (q : Reading). field q (fields n (dropWord (drop from s)))) (sym e)
+    ∙ ap (λ (t : List ℕ). field r (fields n t)) (drop-drop ink from s ∙ ap (λ (k : ℕ). drop k s) (sym w))
+
+pub ends : (s : List ℕ) (at from : ℕ) → from ≡ at + run isBlank (drop at s) → length s ≤ from → fields 0 (drop at s) ≡ aCase []
+unfolding fields
+ends s at from e h = rw (past-blanks s at from e, nothing-left s from h)
+
+pub goes-on : (s : List ℕ) (at from : ℕ) → from ≡ at + run isBlank (drop at s) → from < length s
+    → fields 0 (drop at s) ≡ unreadable
+unfolding fields
+goes-on s at from e h = rw (past-blanks s at from e, left s from h)

@@ -1,0 +1,217 @@
+-- `text::line::read_fields` meets its contract. The invariant: what the line says is the i numbers read so far in front of what the
+-- words from `at` on say. The measure is the count of numbers that are left.
+-- Assumes nothing.
+use mathlib.Core.List.{List}
+use mathlib.Core.Path.{_≡_, refl, sym, ap, _∙_}
+use Prim.Native.Nat.{ℕ, suc, _+_, _-_, _≤_, _<_}
+use native.Mathlib.Numerals.{add-one}
+use native.Mathlib.Omega.{arith}
+use borrow.Author.Needs.{needs}
+use lib.ListN.{length, take, drop, set, length-set}
+use lib.Seq.{take-all, take-suc-set}
+use Rattle.text.specs.declared.number.Reading.{Reading}
+use Rattle.text.specs.declared.number.Reading.the-variants.{Number, Nothing}
+use Rattle.text.specs.Answer.{answer}
+use Rattle.text.specs.Line.{aCase, unreadable, field, fields, width}
+use Rattle.text.specs.Number.{readNumber}
+use Rattle.text.specs.Runs.{run-within}
+use Rattle.text.specs.Words.{run, isBlank, isInk}
+use Rattle.text.proofs.Fields.{after, after-one, after-unreadable, after-none, turn, ends, goes-on}
+use Rattle.text.proofs.line.read_fields.Statement.{statement}
+use Rattle.text.proofs.line.read_fields.Tie as tie
+
+-- of n numbers, those of l before i have been read, and the words from `at` on are left
+record Reading-on (n : ℕ) (s l : List ℕ) (at i : ℕ) : Type 0 where
+  pub count : i ≤ n
+  pub within : at ≤ length s
+  pub room : length l ≡ n
+  pub same : fields n s ≡ after (take i l) (fields (n - i) (drop at s))
+
+abbrev Inv-loop : tie.InvT-loop
+Inv-loop s l₀ at₀ i₀ l at i = Reading-on width s l at i
+
+abbrev μ-loop : tie.MeasureT-loop
+μ-loop s l₀ at₀ i₀ l at i = width - i
+
+-- what the words from `at` on say, where one is read as r
+module _ {n : ℕ} {s l : List ℕ} {at i : ℕ} (on : Reading-on n s l at i) (more : i < n) (from to : ℕ) (r : Reading)
+    (blanks : from ≡ at + run isBlank (drop at s)) (ink : to ≡ from + run isInk (drop from s))
+    (read : r ≡ readNumber (take (to - from) (drop from s))) where
+  one : fields n s ≡ after (take i l) (field r (fields (n - (i + 1)) (drop to s)))
+  one =
+      let left : n - i ≡ suc (n - (i + 1)) = omega arith in
+      on .same
+      ∙ ap (λ (k : ℕ). after (take i l) (fields k (drop at s))) left
+      ∙ ap (after (take i l)) (turn (n - (i + 1)) s at from to r blanks ink read)
+
+  next : (x : ℕ) → r ≡ Number x → Reading-on n s (set l i x) to (i + 1)
+  unfolding field
+  next x e =
+      record {
+        count = omega arith;
+        within = rw ink (run-within isInk s from (rw blanks (run-within isBlank s at (on .within))));
+        room = length-set l i x ∙ on .room;
+        same =
+            one
+            ∙ ap (λ (q : Reading). after (take i l) (field q (fields (n - (i + 1)) (drop to s)))) e
+            ∙ sym (after-one (take i l) x (fields (n - (i + 1)) (drop to s)))
+            ∙ ap (λ (t : List ℕ). after t (fields (n - (i + 1)) (drop to s)))
+            (sym (ap (λ (k : ℕ). take k (set l i x)) (add-one i) ∙ take-suc-set l i x (rw (on .room) more)));
+      }
+
+  bad : r ≡ Nothing → unreadable ≡ fields n s
+  unfolding field
+  bad e =
+      sym (one
+      ∙ ap (λ (q : Reading). after (take i l) (field q (fields (n - (i + 1)) (drop to s)))) e
+      ∙ after-unreadable (take i l))
+
+-- all numbers are read
+module _ {n : ℕ} {s l : List ℕ} {at i : ℕ} (on : Reading-on n s l at i) (all : n ≤ i) (from : ℕ)
+    (blanks : from ≡ at + run isBlank (drop at s)) where
+  last : fields n s ≡ after (take i l) (fields 0 (drop at s))
+  last = on .same ∙ ap (λ (k : ℕ). after (take i l) (fields k (drop at s))) (omega arith)
+
+  done : length s ≤ from → aCase l ≡ fields n s
+  done h =
+      sym (last
+      ∙ ap (after (take i l)) (ends s at from blanks h)
+      ∙ after-none (take i l)
+      ∙ ap aCase (take-all i l (rw (on .room) all)))
+
+  too-long : from < length s → unreadable ≡ fields n s
+  too-long h = sym (last ∙ ap (after (take i l)) (goes-on s at from blanks h) ∙ after-unreadable (take i l))
+
+more : (c : tie.In-loop Inv-loop μ-loop) → c .before .loop .i < width
+unfolding width
+more c = omega arith
+
+loop-holds : tie.Need-loop-holds Inv-loop μ-loop
+unfolding width after
+loop-holds c = record { count = omega arith; within = omega arith; room = refl; same = refl }
+
+skip-blanks-requires : tie.Need-skip-blanks-requires Inv-loop μ-loop
+skip-blanks-requires c κs = tt
+
+skip-word-requires : tie.Need-skip-word-requires Inv-loop μ-loop
+skip-word-requires c κs = tt
+
+sub-read-number : tie.Need-sub-read-number Inv-loop μ-loop
+sub-read-number c = omega arith
+
+part-read-number-start : tie.Need-part-read-number-start Inv-loop μ-loop
+part-read-number-start c = omega arith
+
+part-read-number-end : tie.Need-part-read-number-end Inv-loop μ-loop
+part-read-number-end c =
+    let s = c .before .before .before .before .before .args .s .now in
+    rw (c .skip-word .ensures)
+    (run-within isInk s _
+    (rw (c .before .skip-blanks .ensures) (run-within isBlank s _ (c .before .before .before .loop .inv .within))))
+
+read-number-requires : tie.Need-read-number-requires Inv-loop μ-loop
+read-number-requires c κs = tt
+
+enum-known-x : tie.Need-enum-known-x Inv-loop μ-loop
+enum-known-x c = search needs
+
+mul-fields : tie.Need-mul-fields Inv-loop μ-loop
+mul-fields c = omega arith
+
+array-write-fields : tie.Need-array-write-fields Inv-loop μ-loop
+array-write-fields c = omega arith
+
+enum-told : tie.Need-enum-told Inv-loop μ-loop
+enum-told c = search needs
+
+no-case-requires : tie.Need-no-case-requires Inv-loop μ-loop
+no-case-requires c κs = tt
+
+returns : tie.Need-returns Inv-loop μ-loop
+unfolding width answer
+returns c =
+    let at-told = c .before in
+    let at-turn = at-told .before .before .before .before .before .before in
+    c .no-case .ensures
+    ∙ ap answer
+    (bad
+    (at-turn .before .loop .inv)
+    (more at-turn)
+    _
+    _
+    _
+    (at-told .before .before .before .before .before .skip-blanks .ensures)
+    (at-told .before .before .before .before .skip-word .ensures)
+    (at-told .before .before .read-number .ensures)
+    (at-told .enum-told .given .1))
+
+add-i : tie.Need-add-i Inv-loop μ-loop
+add-i c = omega arith
+
+loop-less : tie.Need-loop-less Inv-loop μ-loop
+unfolding width
+loop-less c = omega arith
+
+loop-again : tie.Need-loop-again Inv-loop μ-loop
+unfolding width
+loop-again c =
+    let at-read = c .before .before .before in
+    let at-turn = at-read .before .before .before .before in
+    next
+    (at-turn .before .loop .inv)
+    (more at-turn)
+    _
+    _
+    _
+    (at-read .before .before .before .skip-blanks .ensures)
+    (at-read .before .before .skip-word .ensures)
+    (at-read .read-number .ensures)
+    _
+    (c .before .x .given .1)
+
+skip-blanks-requires-2 : tie.Need-skip-blanks-requires-2 Inv-loop μ-loop
+skip-blanks-requires-2 c κs = tt
+
+no-case-requires-2 : tie.Need-no-case-requires-2 Inv-loop μ-loop
+no-case-requires-2 c κs = tt
+
+returns-2 : tie.Need-returns-2 Inv-loop μ-loop
+unfolding width answer
+returns-2 c =
+    let at-end = c .before .before .before in
+    c .no-case2 .ensures
+    ∙ ap answer
+    (too-long (at-end .before .loop .inv) (at-end .loop-test .left) _ (c .before .before .skip-blanks2 .ensures) (c .before .if1 .taken))
+
+returns-3 : tie.Need-returns-3 Inv-loop μ-loop
+unfolding width answer
+returns-3 c =
+    let at-end = c .before .before in
+    ap answer (done (at-end .before .loop .inv) (at-end .loop-test .left) _ (c .before .skip-blanks2 .ensures) (c .if1 .left))
+
+pub read-fields-spec : {M : Type 1} → statement M
+read-fields-spec =
+    tie.close
+    (tie.spec
+    Inv-loop
+    μ-loop
+    loop-holds
+    skip-blanks-requires
+    skip-word-requires
+    sub-read-number
+    part-read-number-start
+    part-read-number-end
+    read-number-requires
+    enum-known-x
+    mul-fields
+    array-write-fields
+    enum-told
+    no-case-requires
+    returns
+    add-i
+    loop-less
+    loop-again
+    skip-blanks-requires-2
+    no-case-requires-2
+    returns-2
+    returns-3)

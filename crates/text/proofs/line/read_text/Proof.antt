@@ -1,0 +1,71 @@
+-- `text::line::read_text` meets its contract: at each `return` the tests that led there say which case of `says` holds.
+-- Assumes nothing.
+use mathlib.Core.Bool.{or-true}
+use mathlib.Core.List.{List}
+use mathlib.Core.Path.{_≡_, ap, _∙_}
+use Prim.Native.Nat.{ℕ, _+_, _≤_, _<_}
+use borrow.Author.Needs.{needs}
+use borrow.Author.Tests.{eq-eqb, ne-eqb}
+use lib.ListN.{length, getD, drop}
+use Rattle.text.specs.Answer.{answer}
+use Rattle.text.specs.Line.{passedOver, fields, says, width}
+use Rattle.text.specs.Runs.{left, nothing-left}
+use Rattle.text.specs.Words.{run, isBlank}
+use Rattle.text.proofs.Fields.{past-blanks}
+use Rattle.text.proofs.line.read_text.Statement.{statement}
+use Rattle.text.proofs.line.read_text.Tie as tie
+
+blank : (n : ℕ) (s : List ℕ) (from : ℕ) → from ≡ 0 + run isBlank (drop 0 s) → length s ≤ from → passedOver ≡ says n s
+unfolding says
+blank n s from e h = rw (past-blanks s 0 from e, nothing-left s from h)
+
+comment : (n : ℕ) (s : List ℕ) → getD s 0 0 ≡ 35 → passedOver ≡ says n s
+unfolding says
+comment n s h = simp (eq-eqb _ _ h, or-true)
+
+other : (n : ℕ) (s : List ℕ) (from : ℕ) → from ≡ 0 + run isBlank (drop 0 s) → from < length s → (getD s 0 0 ≡ 35 → ⊥)
+    → fields n s ≡ says n s
+unfolding says
+other n s from e h k = rw (past-blanks s 0 from e, left s from h, ne-eqb _ _ k)
+
+skip-blanks-requires : tie.Need-skip-blanks-requires
+skip-blanks-requires c κs = tt
+
+no-case-requires : tie.Need-no-case-requires
+no-case-requires c κs = tt
+
+returns : tie.Need-returns
+unfolding answer
+returns c = c .no-case .ensures ∙ ap answer (blank width _ _ (c .before .before .skip-blanks .ensures) (c .before .if1 .taken))
+
+shared-slice-read-if2 : tie.Need-shared-slice-read-if2
+shared-slice-read-if2 c = search needs
+
+no-case-requires-2 : tie.Need-no-case-requires-2
+no-case-requires-2 c κs = tt
+
+returns-2 : tie.Need-returns-2
+unfolding answer
+returns-2 c = c .no-case2 .ensures ∙ ap answer (comment width _ (c .before .if2 .taken))
+
+read-fields-requires : tie.Need-read-fields-requires
+read-fields-requires c κs = tt
+
+returns-3 : tie.Need-returns-3
+returns-3 c =
+    let at-test = c .before .before .before in
+    c .read-fields .ensures
+    ∙ ap answer (other width _ _ (at-test .before .skip-blanks .ensures) (at-test .if1 .left) (c .before .if2 .left))
+
+pub read-text-spec : {M : Type 1} → statement M
+read-text-spec =
+    tie.close
+    (tie.spec
+    skip-blanks-requires
+    no-case-requires
+    returns
+    shared-slice-read-if2
+    no-case-requires-2
+    returns-2
+    read-fields-requires
+    returns-3)

@@ -1,0 +1,40 @@
+-- `text::line::text_length` meets its contract: at each `return` the tests that led there say which case of `textLength` holds.
+-- Assumes nothing.
+use mathlib.Core.List.{List, [], _∷_}
+use mathlib.Core.Path.{_≡_, refl}
+use Prim.Native.Nat.{ℕ}
+use native.Mathlib.Omega.{arith}
+use borrow.Author.Needs.{needs}
+use borrow.Author.Tests.{eq-eqb, ne-eqb}
+use lib.ListN.{length}
+use Rattle.text.specs.Line.{textLength}
+use Rattle.text.proofs.line.text_length.Statement.{statement}
+use Rattle.text.proofs.line.text_length.Tie as tie
+
+none : (l : List ℕ) → length l ≡ 0 → 0 ≡ textLength l
+unfolding textLength
+none [] e = refl
+none (b ∷ l) e = absurd (omega arith)
+
+returns : tie.Need-returns
+returns c = none _ (c .if1 .taken)
+
+sub-if2 : tie.Need-sub-if2
+sub-if2 c = search needs
+
+shared-slice-read-if2 : tie.Need-shared-slice-read-if2
+shared-slice-read-if2 c = search needs
+
+sub-result : tie.Need-sub-result
+sub-result c = search needs
+
+returns-2 : tie.Need-returns-2
+unfolding textLength
+returns-2 c = simp (eq-eqb _ _ (c .if2 .taken))
+
+returns-3 : tie.Need-returns-3
+unfolding textLength
+returns-3 c = simp (ne-eqb _ _ (c .if2 .left))
+
+pub text-length-spec : {M : Type 1} → statement M
+text-length-spec = tie.close (tie.spec returns sub-if2 shared-slice-read-if2 sub-result returns-2 returns-3)

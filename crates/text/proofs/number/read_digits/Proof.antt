@@ -1,0 +1,99 @@
+-- `text::number::read_digits` meets its contract. The invariant: what the word says is what the digits from i on say after the value x,
+-- which is within the limit. The measure is what is left of the word.
+-- Assumes nothing.
+use mathlib.Core.Path.{_≡_, sym, _∙_}
+use Prim.Native.Nat.{_+_, _-_, _*_, _≤_, zero-le}
+use native.Mathlib.Omega.{arith}
+use lib.ListN.{length, drop, getD}
+use Rattle.text.specs.Number.{readDigits}
+use Rattle.text.proofs.Digits.{onward, begin, empty, onward-digit, onward-low, onward-high, onward-over, onward-end}
+use Rattle.text.proofs.number.read_digits.Statement.{statement}
+use Rattle.text.proofs.number.read_digits.Tie as tie
+
+abbrev Inv-loop : tie.InvT-loop
+Inv-loop w limit x₀ i₀ x i = (x ≤ limit) × (readDigits limit w ≡ onward limit x (drop i w))
+
+abbrev μ-loop : tie.MeasureT-loop
+μ-loop w limit x₀ i₀ x i = length w - i
+
+returns : tie.Need-returns Inv-loop μ-loop
+returns c = empty _ _ (c .if1 .taken)
+
+loop-holds : tie.Need-loop-holds Inv-loop μ-loop
+loop-holds c = (zero-le, begin _ _ (c .if1 .left))
+
+shared-slice-read-b : tie.Need-shared-slice-read-b Inv-loop μ-loop
+shared-slice-read-b c = c .before .loop-test .taken
+
+returns-2 : tie.Need-returns-2 Inv-loop μ-loop
+returns-2 c =
+    let at-loop = c .before .before .before in
+    sym (at-loop .loop .inv .1 ∙ onward-low _ _ _ _ (c .before .before .loop-test .taken) (c .if2 .taken))
+
+returns-3 : tie.Need-returns-3 Inv-loop μ-loop
+returns-3 c =
+    let at-loop = c .before .before .before .before in
+    sym (at-loop .loop .inv .1 ∙ onward-high _ _ _ _ (c .before .before .before .loop-test .taken) (omega arith))
+
+cast-next : tie.Need-cast-next Inv-loop μ-loop
+cast-next c = omega arith
+
+mul-next : tie.Need-mul-next Inv-loop μ-loop
+mul-next c = omega arith
+
+cast-next-2 : tie.Need-cast-next-2 Inv-loop μ-loop
+cast-next-2 c = omega arith
+
+add-next : tie.Need-add-next Inv-loop μ-loop
+add-next c = omega arith
+
+-- a digit was read
+turn : (c : tie.Else3 Inv-loop μ-loop)
+    → let at-turn = c .before .before .before in
+    let w = at-turn .before .before .before .args .w .now in
+    let limit = at-turn .before .before .before .args .limit in
+    let at-loop = at-turn .before .loop in
+    readDigits limit w ≡ onward limit (at-loop .x * 10 + (getD w (at-loop .i) 0 - 48)) (drop (at-loop .i + 1) w)
+turn c =
+    let at-turn = c .before .before .before in
+    at-turn .before .loop .inv .1 ∙ onward-digit _ _ _ _ (at-turn .loop-test .taken) (c .before .if2 .left) (c .if3 .left)
+
+returns-4 : tie.Need-returns-4 Inv-loop μ-loop
+returns-4 c = sym (turn (c .before) ∙ onward-over _ _ _ (c .if4 .taken))
+
+cast-x : tie.Need-cast-x Inv-loop μ-loop
+cast-x c = omega arith
+
+add-i : tie.Need-add-i Inv-loop μ-loop
+add-i c = omega arith
+
+loop-less : tie.Need-loop-less Inv-loop μ-loop
+loop-less c = omega arith
+
+loop-again : tie.Need-loop-again Inv-loop μ-loop
+loop-again c = (c .if4 .left, turn (c .before))
+
+returns-5 : tie.Need-returns-5 Inv-loop μ-loop
+returns-5 c = sym (c .before .loop .inv .1 ∙ onward-end _ _ _ _ (c .loop-test .left) (c .before .loop .inv .0))
+
+pub read-digits-spec : {M : Type 1} → statement M
+read-digits-spec =
+    tie.close
+    (tie.spec
+    Inv-loop
+    μ-loop
+    returns
+    loop-holds
+    shared-slice-read-b
+    returns-2
+    returns-3
+    cast-next
+    mul-next
+    cast-next-2
+    add-next
+    returns-4
+    cast-x
+    add-i
+    loop-less
+    loop-again
+    returns-5)

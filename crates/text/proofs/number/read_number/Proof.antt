@@ -1,0 +1,102 @@
+-- `text::number::read_number` meets its contract: the tests that led to a `return` say which case of `readNumber` holds.
+-- Assumes nothing.
+use mathlib.Core.List.{List, [], _∷_}
+use mathlib.Core.Path.{_≡_, sym, ap, _∙_}
+use Prim.Native.Nat.{ℕ, _-_}
+use native.Mathlib.Omega.{arith}
+use borrow.Author.Needs.{needs}
+use borrow.Author.Tests.{eq-eqb, ne-eqb}
+use lib.ListN.{length, getD, take, drop, length-drop}
+use lib.Seq.{take-all}
+use Rattle.text.specs.declared.number.Reading.{Reading}
+use Rattle.text.specs.declared.number.Reading.the-variants.{Nothing}
+use Rattle.text.specs.Number.{readDigits, negated, readNumber}
+use Rattle.text.proofs.Digits as digits
+use Rattle.text.proofs.number.read_number.Statement.{statement}
+use Rattle.text.proofs.number.read_number.Tie as tie
+
+plain : (w : List ℕ) → (getD w 0 0 ≡ 45 → ⊥) → readDigits 4294967295 w ≡ readNumber w
+unfolding readNumber
+plain w h = simp (ne-eqb _ _ h)
+
+empty : (w : List ℕ) → length w ≡ 0 → Nothing ≡ readNumber w
+empty [] e = digits.empty 4294967295 [] e ∙ plain [] (λ h. omega arith)
+empty (b ∷ w) e = absurd (omega arith)
+
+-- r is what the word without its first byte says
+minus : (w : List ℕ) (r : Reading) → getD w 0 0 ≡ 45 → r ≡ readDigits 2147483648 (take (length w - 1) (drop 1 w)) → negated r ≡ readNumber w
+unfolding readNumber
+minus w r h e =
+    let rest : take (length w - 1) (drop 1 w) ≡ drop 1 w = take-all (length w - 1) (drop 1 w) (rw length-drop (omega arith)) in
+    simp (eq-eqb _ _ h) (ap negated (e ∙ ap (readDigits 2147483648) rest))
+
+returns : tie.Need-returns
+returns c = empty _ (c .if1 .taken)
+
+shared-slice-read-if2 : tie.Need-shared-slice-read-if2
+shared-slice-read-if2 c = search needs
+
+read-digits-requires : tie.Need-read-digits-requires
+read-digits-requires c κs = tt
+
+returns-2 : tie.Need-returns-2
+returns-2 c = c .read-digits .ensures ∙ plain _ (c .before .if2 .taken)
+
+sub-read-digits : tie.Need-sub-read-digits
+sub-read-digits c = search needs
+
+part-read-digits-start : tie.Need-part-read-digits-start
+part-read-digits-start c = search needs
+
+part-read-digits-end : tie.Need-part-read-digits-end
+part-read-digits-end c = search needs
+
+read-digits-requires-2 : tie.Need-read-digits-requires-2
+read-digits-requires-2 c κs = tt
+
+enum-known-x : tie.Need-enum-known-x
+enum-known-x c = search needs
+
+cast-t12 : tie.Need-cast-t12
+cast-t12 c = search needs
+
+sub-t13 : tie.Need-sub-t13
+sub-t13 c = search needs
+
+cast-t15 : tie.Need-cast-t15
+cast-t15 c = search needs
+
+enum-told : tie.Need-enum-told
+enum-told c = search needs
+
+returns-3 : tie.Need-returns-3
+unfolding negated
+returns-3 c =
+    let at-call = c .before .before .before in
+    ap negated (sym (c .before .x .given .1)) ∙ minus _ _ (at-call .before .before .if2 .left) (at-call .read-digits2 .ensures)
+
+returns-4 : tie.Need-returns-4
+unfolding negated
+returns-4 c =
+    let at-call = c .before .before in
+    ap negated (sym (c .enum-told .given .1)) ∙ minus _ _ (at-call .before .before .if2 .left) (at-call .read-digits2 .ensures)
+
+pub read-number-spec : {M : Type 1} → statement M
+read-number-spec =
+    tie.close
+    (tie.spec
+    returns
+    shared-slice-read-if2
+    read-digits-requires
+    returns-2
+    sub-read-digits
+    part-read-digits-start
+    part-read-digits-end
+    read-digits-requires-2
+    enum-known-x
+    cast-t12
+    sub-t13
+    cast-t15
+    enum-told
+    returns-3
+    returns-4)

@@ -1,0 +1,69 @@
+-- A line that is gathered piece by piece in a room of fixed size: what is kept is the start of the whole line, and 1024 bytes of it are
+-- enough to read it. Assumes nothing.
+use mathlib.Core.Bool.{Bool, true, false}
+use mathlib.Core.List.{List, [], _∷_, _++_}
+use mathlib.Core.Path.{_≡_, refl, sym, ap, _∙_}
+use Prim.Native.Nat.{ℕ, zero, suc, _+_, _-_, _≤_, _<_, min}
+use native.Mathlib.Nat.{zero-sub, sub-zero, suc-sub-suc}
+use native.Mathlib.Omega.{arith}
+use borrow.Author.Tests.{lt-ltb, ltb-true, ltb-false}
+use lib.Dec.{ltb}
+use lib.ListN.{length, take, drop, length-take, length-append}
+use lib.Seq.{take-all, take-at, take-nil, length-take-le}
+use Rattle.text.specs.Gather.{piece, kept}
+use Rattle.text.specs.Line.{unreadable, readLineOf}
+use Rattle.text.specs.Splice.{splice}
+
+-- ---- 1024 bytes decide what a line says
+
+pub too-long : (n : ℕ) (l : List ℕ) → 1023 < length l → readLineOf n l ≡ unreadable
+unfolding readLineOf
+too-long n l h = simp (lt-ltb _ _ h)
+
+pub start-decides : (n : ℕ) (l : List ℕ) → readLineOf n (take 1024 l) ≡ readLineOf n l
+start-decides n l = go (ltb 1023 (length l)) refl
+  where
+    go : (t : Bool) → ltb 1023 (length l) ≡ t → readLineOf n (take 1024 l) ≡ readLineOf n l
+    go true e =
+        let long = ltb-true 1023 (length l) e in
+        too-long n (take 1024 l) (omega (arith, length-take 1024 l)) ∙ sym (too-long n l long)
+    go false e = ap (readLineOf n) (take-all 1024 l (omega (arith, ltb-false 1023 (length l) e)))
+
+-- ---- what is kept is the start of the line
+
+-- the first len elements of l are as much of the line as a room of n bytes holds
+pub record Holds (n : ℕ) (l line : List ℕ) (len : ℕ) : Type 0 where
+  pub size : len ≡ min n (length line)
+  pub bytes : take len l ≡ take n line
+
+take-append : (n : ℕ) (a b : List ℕ) → take n (a ++ b) ≡ take n a ++ take (n - length a) b
+take-append n [] b = sym (ap (λ (t : List ℕ). t ++ take (n - 0) b) (take-nil n) ∙ ap (λ (k : ℕ). take k b) (sub-zero n))
+take-append zero (x ∷ a) b = ap (λ (k : ℕ). take k b) (sym (zero-sub (suc (length a))))
+take-append (suc n) (x ∷ a) b =
+    ap (λ (r : List ℕ). x ∷ r) (take-append n a b)
+    ∙ ap (λ (k : ℕ). x ∷ (take n a ++ take k b)) (sym (suc-sub-suc n (length a)))
+
+module _ (n : ℕ) (l line : List ℕ) (len from to : ℕ) (chunk : List ℕ) (room : n ≤ length l) (h : Holds n l line len) where
+  more : List ℕ
+  more = kept (n - len) from to chunk
+
+  joined : take len l ++ more ≡ take n (line ++ piece from to chunk)
+  unfolding more kept
+  joined =
+      let left : n - len ≡ n - length line = let e = h .size in omega arith in
+      ap (λ (t : List ℕ). t ++ more) (h .bytes)
+      ∙ ap (λ (k : ℕ). take n line ++ take k (piece from to chunk)) left
+      ∙ sym (take-append n line (piece from to chunk))
+
+  joined-length : length (take len l ++ more) ≡ len + length more
+  joined-length =
+      let fits : len ≤ length l = let e = h .size in omega arith in
+      length-append (take len l) more ∙ ap (λ (k : ℕ). k + length more) (length-take-le len l fits)
+
+  pub holds-more : Holds n (splice l len (kept (n - len) from to chunk)) (line ++ piece from to chunk) (len + length (kept (n - len) from to chunk))
+  unfolding more splice
+  holds-more =
+      record {
+        size = sym joined-length ∙ ap length joined ∙ length-take n (line ++ piece from to chunk);
+        bytes = take-at (take len l ++ more) (drop (len + length more) l) (len + length more) joined-length ∙ joined;
+      }

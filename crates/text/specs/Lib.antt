@@ -1,0 +1,14 @@
+pub mod Answer
+pub mod CaseLaws
+pub mod Decimal
+pub mod DecimalLaws
+pub mod Examples
+pub mod Gather
+pub mod GatherLaws
+pub mod Line
+pub mod Number
+pub mod NumberLaws
+pub mod RoundTrip
+pub mod Runs
+pub mod Splice
+pub mod Words

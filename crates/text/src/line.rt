@@ -1,0 +1,90 @@
+// A line read as a case.
+ghost use mathlib.Core.Path.{_≡_};
+ghost use Rattle.text.specs.Answer.{answer, noCase};
+ghost use Rattle.text.specs.Line.{fields, readLine, says, textLength, width};
+use crate::number::Reading;
+use crate::words::skip_blanks;
+use crate::words::skip_word;
+
+// How many numbers a case has.
+pub const WIDTH: usize = 26;
+
+// What a line says: 0 passed over, 1 a case with its numbers, 2 unreadable. The fields are 0 but in a case.
+pub struct Read {
+    pub kind: u32,
+    pub fields: [u32; WIDTH],
+}
+
+fn no_case(kind: u32) -> Read
+    ensures { λ r. ⌜ r ≡ noCase kind ⌝ }
+{
+    Read {
+        kind,
+        fields: [0u32; WIDTH],
+    }
+}
+
+// As many numbers as a case has, and nothing but blanks after them.
+fn read_fields(s: &[u8]) -> Read
+    ensures { λ r. ⌜ r ≡ answer (fields width (now (s .entry))) ⌝ }
+{
+    let mut fields = [0u32; WIDTH];
+    let mut at = 0;
+    let mut i = 0;
+    while i < WIDTH {
+        let from = skip_blanks(s, at);
+        let to = skip_word(s, from);
+        match crate::number::read_number(&s[from..to]) {
+            Reading::Number(x) => {
+                fields[i] = x;
+            }
+            Reading::Nothing => {
+                return no_case(2);
+            }
+        }
+        at = to;
+        i += 1;
+    }
+    if skip_blanks(s, at) < s.len() {
+        return no_case(2);
+    }
+    Read { kind: 1, fields }
+}
+
+// A line with no carriage return at its end.
+fn read_text(s: &[u8]) -> Read
+    ensures { λ r. ⌜ r ≡ answer (says width (now (s .entry))) ⌝ }
+{
+    if s.len() <= skip_blanks(s, 0) {
+        return no_case(0);
+    }
+    if s[0] == 35 {
+        return no_case(0);
+    }
+    read_fields(s)
+}
+
+// The length of a line without one carriage return at its end.
+fn text_length(line: &[u8]) -> usize
+    ensures { λ r. ⌜ r ≡ textLength (now (line .entry)) ⌝ }
+{
+    let n = line.len();
+    if n == 0 {
+        return 0;
+    }
+    if line[n - 1] == 13 {
+        return n - 1;
+    }
+    n
+}
+
+// What a line says, without its line feed. The limit counts the carriage return.
+pub fn read_line(line: &[u8]) -> Read
+    ensures { λ r. ⌜ r ≡ answer (readLine (now (line .entry))) ⌝ }
+{
+    if 1023 < line.len() {
+        return no_case(2);
+    }
+    let n = text_length(line);
+    read_text(&line[..n])
+}

@@ -1,0 +1,52 @@
+// A word read as a number.
+ghost use mathlib.Core.Path.{_≡_};
+ghost use Rattle.text.specs.Number.{readDigits, readNumber};
+
+// What a word says.
+pub enum Reading {
+    Number(u32),
+    Nothing,
+}
+
+// Digits with a value of at most `limit`. The value only grows, so the first digit that takes it past the limit decides.
+fn read_digits(w: &[u8], limit: u32) -> Reading
+    ensures { λ r. ⌜ r ≡ readDigits limit (now (w .entry)) ⌝ }
+{
+    if w.len() == 0 {
+        return Reading::Nothing;
+    }
+    let mut x: u32 = 0;
+    let mut i = 0;
+    while i < w.len() {
+        let b = w[i];
+        if b < 48 {
+            return Reading::Nothing;
+        }
+        if 57 < b {
+            return Reading::Nothing;
+        }
+        let next = x as u64 * 10 + (b - 48) as u64;
+        if (limit as u64) < next {
+            return Reading::Nothing;
+        }
+        x = next as u32;
+        i += 1;
+    }
+    Reading::Number(x)
+}
+
+// Digits to 4294967295; or a minus sign and digits to 2147483648, which stand for the two's complement.
+pub fn read_number(w: &[u8]) -> Reading
+    ensures { λ r. ⌜ r ≡ readNumber (now (w .entry)) ⌝ }
+{
+    if w.len() == 0 {
+        return Reading::Nothing;
+    }
+    if w[0] != 45 {
+        return read_digits(w, 4294967295);
+    }
+    match read_digits(&w[1..], 2147483648) {
+        Reading::Number(x) => Reading::Number(((4294967296 - x as u64) % 4294967296) as u32),
+        Reading::Nothing => Reading::Nothing,
+    }
+}

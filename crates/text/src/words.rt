@@ -1,0 +1,40 @@
+// Where a run of blanks or a word ends.
+ghost use mathlib.Core.Path.{_≡_};
+ghost use Prim.Native.Nat.{_+_};
+ghost use lib.ListN.{drop};
+ghost use Rattle.text.specs.Words.{isBlank, isInk, run};
+
+// A blank or a tab.
+fn is_blank(b: u8) -> bool
+    ensures { λ r. ⌜ r ≡ isBlank b ⌝ }
+{
+    (b == 32) | (b == 9)
+}
+
+// The place of the first byte from `at` on that is no blank, or the end.
+pub fn skip_blanks(s: &[u8], at: usize) -> usize
+    ensures { λ r. ⌜ r ≡ at + run isBlank (drop at (now (s .entry))) ⌝ }
+{
+    let mut i = at;
+    while i < s.len() {
+        if !is_blank(s[i]) {
+            return i;
+        }
+        i += 1;
+    }
+    i
+}
+
+// The place of the first blank from `at` on, or the end.
+pub fn skip_word(s: &[u8], at: usize) -> usize
+    ensures { λ r. ⌜ r ≡ at + run isInk (drop at (now (s .entry))) ⌝ }
+{
+    let mut i = at;
+    while i < s.len() {
+        if is_blank(s[i]) {
+            return i;
+        }
+        i += 1;
+    }
+    i
+}

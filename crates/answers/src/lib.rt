@@ -1,0 +1,95 @@
+// What the program `rate` prints for a line of its input. Each function writes into `out` from `at` on, and answers the place after
+// what it wrote. A bound on that place shows that the next one has room.
+ghost use mathlib.Core.List.{[], _∷_};
+ghost use mathlib.Core.Path.{_≡_};
+ghost use Prim.Native.Nat.{_+_, _≤_};
+ghost use lib.ListN.{length};
+ghost use Rattle.answers.specs.Answers.{textOf, unreadableText, printed};
+ghost use Rattle.rating.specs.Rate.{answerOf};
+ghost use Rattle.text.specs.RoundTrip.{spaced};
+ghost use Rattle.text.specs.Splice.{splice};
+use rating::rate::Rated;
+use rating::rate::rate;
+use text::decimal::put_byte;
+use text::decimal::put_decimal;
+use text::gather::keep;
+use text::line::read_line;
+
+// Room for what is printed for any line.
+pub const ROOM: usize = 512;
+
+// Writes bytes.
+fn put_bytes(out: &mut [u8], at: usize, bytes: &[u8]) -> usize
+    requires { ⌜ at + length (now bytes) ≤ length (now out) ⌝ }
+    ensures { λ r. ⌜ (r ≡ at + length (now (bytes .entry)))
+        × (now (out .exit) ≡ splice (now (out .entry)) at (now (bytes .entry))) ⌝ }
+{
+    keep(out, at, bytes, 0, bytes.len())
+}
+
+// Writes a blank and a number.
+fn put_number(out: &mut [u8], at: usize, x: u64) -> usize
+    requires { ⌜ at + 21 ≤ length (now out) ⌝ }
+    ensures { λ r. ⌜ (r ≡ at + length (spaced (x ∷ []))) × (now (out .exit) ≡ splice (now (out .entry)) at (spaced (x ∷ []))) ⌝ }
+    ensures { λ r. ⌜ r ≤ at + 21 ⌝ }
+{
+    let digits = put_byte(out, at, b' ');
+    put_decimal(out, digits, x)
+}
+
+// Writes each number of a sheet with a blank before it.
+fn put_sheet(out: &mut [u8], at: usize, xs: [u64; 13]) -> usize
+    requires { ⌜ at + 273 ≤ length (now out) ⌝ }
+    ensures { λ r. ⌜ (r ≡ at + length (spaced xs)) × (now (out .exit) ≡ splice (now (out .entry)) at (spaced xs)) ⌝ }
+    ensures { λ r. ⌜ r ≤ at + 273 ⌝ }
+{
+    let mut end = at;
+    let mut i = 0;
+    while i < 13 {
+        end = put_number(out, end, xs[i]);
+        i += 1;
+    }
+    end
+}
+
+// Writes the line for a case.
+fn put_answer(out: &mut [u8], at: usize, a: Rated) -> usize
+    requires { ⌜ at + 512 ≤ length (now out) ⌝ }
+    ensures { λ r. ⌜ (r ≡ at + length (textOf (answerOf a))) × (now (out .exit) ≡ splice (now (out .entry)) at (textOf (answerOf a))) ⌝ }
+    ensures { λ r. ⌜ r ≤ at + 512 ⌝ }
+{
+    let sheet = a.sheet;
+    let first = put_decimal(out, at, a.answer as u64);
+    let second = put_number(out, first, a.rating as u64);
+    let end = put_sheet(out, second, sheet);
+    put_byte(out, end, b'\n')
+}
+
+// Writes the line for an unreadable line.
+fn put_unreadable(out: &mut [u8], at: usize, number: u64) -> usize
+    requires { ⌜ at + 512 ≤ length (now out) ⌝ }
+    ensures { λ r. ⌜ (r ≡ at + length (unreadableText number)) × (now (out .exit) ≡ splice (now (out .entry)) at (unreadableText number)) ⌝ }
+    ensures { λ r. ⌜ r ≤ at + 512 ⌝ }
+{
+    let digits = put_bytes(out, at, b"line ");
+    let rest = put_decimal(out, digits, number);
+    put_bytes(out, rest, b": unreadable\n")
+}
+
+// Writes what is printed for a line, given its number and its bytes without the line feed.
+pub fn print_line(out: &mut [u8], at: usize, number: u64, line: &[u8]) -> usize
+    requires { ⌜ at + 512 ≤ length (now out) ⌝ }
+    ensures { λ r. ⌜ (r ≡ at + length (printed number (now (line .entry))))
+        × (now (out .exit) ≡ splice (now (out .entry)) at (printed number (now (line .entry)))) ⌝ }
+    ensures { λ r. ⌜ r ≤ at + 512 ⌝ }
+{
+    let said = read_line(line);
+    if said.kind == 0 {
+        return at;
+    }
+    if said.kind == 1 {
+        let fields = said.fields;
+        return put_answer(out, at, rate(fields));
+    }
+    put_unreadable(out, at, number)
+}

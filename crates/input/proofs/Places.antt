@@ -1,0 +1,25 @@
+-- The two positions of gathering stay within their buffers: the place of a line feed within the chunk's part, and the new length
+-- within the line. Assumes nothing.
+use mathlib.Core.Path.{_≡_, ap}
+use mathlib.Core.List.{List, _++_}
+use Prim.Native.Nat.{ℕ, _+_, _≤_}
+use native.Mathlib.Omega.{arith}
+use lib.ListN.{length, take, drop, length-append}
+use lib.Seq.{length-take-le}
+use Rattle.text.specs.Gather.{isInLine}
+use Rattle.text.specs.Runs.{run-within}
+use Rattle.text.specs.Splice.{splice}
+use Rattle.text.specs.Words.{run}
+
+pub stop-within :
+    {at stop end : ℕ} (l : List ℕ) → at ≤ end → end ≤ length l → stop ≡ at + run isInLine (drop at (take end l)) → stop ≤ end
+stop-within {at} {stop} {end} l at≤ end≤ stop-is =
+    let size : length (take end l) ≡ end = length-take-le end l end≤ in
+    omega (arith, run-within isInLine (take end l) at (omega arith))
+
+pub length-within :
+    {len r : ℕ} {last : List ℕ} (l vs : List ℕ) → len ≤ length l → r ≡ len + length vs → last ≡ splice l len vs → r ≤ length last
+unfolding splice
+length-within {len} {r} {last} l vs len≤ r-is last-is =
+    let size : length (take len l) ≡ len = length-take-le len l len≤ in
+    omega (arith, simp length-append at (ap length last-is))

@@ -1,0 +1,104 @@
+// Standard input, line by line, in two buffers that the caller lends: a chunk as it was read, and the line that is gathered from
+// chunks. Memory does not grow with the input, and a budget of reads makes every loop end.
+ghost use mathlib.Core.Path.{_≡_};
+ghost use Prim.Native.Nat.{_≤_};
+ghost use lib.ListN.{length};
+ghost use Rattle.input.specs.State.{Ready, Given};
+use text::gather::keep;
+use text::gather::line_feed;
+
+// Where reading stands: the chunk's bytes from `at` to `end` are still to come, and so many reads are left.
+pub struct Input {
+    pub at: usize,
+    pub end: usize,
+    pub reads: u64,
+}
+
+// The line's length, if there was one: a line feed ends it, or the end of the input after at least one byte.
+pub struct Line {
+    pub found: bool,
+    pub len: usize,
+    pub next: Input,
+}
+
+pub fn start() -> Input
+    ensures { λ r. ⌜ (r .at ≤ r .end) × (r .end ≤ 0) ⌝ }
+{
+    Input {
+        at: 0,
+        end: 0,
+        reads: u64::MAX,
+    }
+}
+
+// The chunk's bytes up to a line feed or the end, added to the line.
+struct Gathered {
+    stop: usize,
+    len: usize,
+}
+
+fn gather(chunk: &[u8], line: &mut [u8], len: usize, at: usize, end: usize) -> Gathered
+    requires { ⌜ (at ≤ end) × (end ≤ length (now chunk)) × (len ≤ length (now line)) ⌝ }
+    ensures { λ g. ⌜ (g .stop ≤ end) × (g .len ≤ length (now (line .exit))) ⌝ }
+{
+    let part = &chunk[..end];
+    let stop = line_feed(part, at);
+    let more = keep(line, len, part, at, stop);
+    Gathered { stop, len: more }
+}
+
+// The chunk filled anew, and how many bytes it has: none at the end of the input, or where reading fails.
+fn refill(chunk: &mut [u8]) -> usize
+    ensures { λ r. ⌜ r ≤ length (now (chunk .exit)) ⌝ }
+{
+    let got = libc::read(libc::STDIN_FILENO, chunk);
+    io::count(got, chunk)
+}
+
+// What is left of the line at the end of the input, if anything is.
+fn last(len: usize) -> Line
+    ensures { λ r. ⌜ (r .len ≡ len) × (r .next .at ≡ 0) × (r .next .end ≡ 0) ⌝ }
+{
+    Line {
+        found: 0 < len,
+        len,
+        next: Input {
+            at: 0,
+            end: 0,
+            reads: 0,
+        },
+    }
+}
+
+// The next line, without its line feed, at the front of `line`; of a longer one as much as fits.
+pub fn next_line(chunk: &mut [u8], line: &mut [u8], from: Input) -> Line
+    requires { ⌜ Ready from (length (now chunk)) ⌝ }
+    ensures { λ r. ⌜ Given r (length (now (chunk .exit))) (length (now (line .exit))) ⌝ }
+{
+    let mut at = from.at;
+    let mut end = from.end;
+    let mut reads = from.reads;
+    let mut len: usize = 0;
+    while 0 < reads {
+        let g = gather(chunk, line, len, at, end);
+        len = g.len;
+        if g.stop < end {
+            return Line {
+                found: true,
+                len,
+                next: Input {
+                    at: g.stop + 1,
+                    end,
+                    reads,
+                },
+            };
+        }
+        end = refill(chunk);
+        if end == 0 {
+            return last(len);
+        }
+        at = 0;
+        reads -= 1;
+    }
+    last(len)
+}

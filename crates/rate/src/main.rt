@@ -1,0 +1,50 @@
+// Reads cases from standard input, one to a line, and prints for each its answer, rating and sheet. What is printed for a line is
+// `answers::print_line`; here are the buffers, the loop over the lines and the writing.
+ghost use Prim.Native.Nat.{_+_, _≤_};
+ghost use lib.ListN.{length};
+use libc::STDOUT_FILENO;
+
+fn send(out: &[u8], used: usize)
+    requires { ⌜ used ≤ length (now out) ⌝ }
+{
+    io::write_all(STDOUT_FILENO, &out[..used]);
+}
+
+// One line's text in `out`, which is sent on where it might not take another.
+fn answer(out: &mut [u8], used: usize, number: u64, line: &[u8], len: usize) -> usize
+    requires { ⌜ (used + 512 ≤ length (now out)) × (len ≤ length (now line)) ⌝ }
+    ensures { λ r. ⌜ r + 512 ≤ length (now (out .exit)) ⌝ }
+{
+    let end = answers::print_line(out, used, number, &line[..len]);
+    if out.len() - end < 512 {
+        send(out, end);
+        return 0;
+    }
+    end
+}
+
+fn serve(chunk: &mut [u8], line: &mut [u8], out: &mut [u8])
+    requires { ⌜ 512 ≤ length (now out) ⌝ }
+{
+    let mut from = input::start();
+    let mut used: usize = 0;
+    let mut number: u64 = 0;
+    while number < u64::MAX {
+        let next = input::next_line(chunk, line, from);
+        if !next.found {
+            send(out, used);
+            return;
+        }
+        number += 1;
+        used = answer(out, used, number, line, next.len);
+        from = next.next;
+    }
+    send(out, used);
+}
+
+fn main() {
+    let mut chunk = io::large_buffer();
+    let mut line = [0u8; 1024];
+    let mut out = io::large_buffer();
+    serve(&mut chunk, &mut line, &mut out);
+}

@@ -1,5 +1,5 @@
--- Parts written one after another are their whole written at once: `Put`, what each function that writes ensures, and the laws by which
--- the functions' proofs join the parts. Assumes nothing.
+-- Parts written one after another are their whole written at once: `Put`, what each function that writes ensures, and the laws by
+-- which the functions' proofs join the parts. Assumes nothing.
 use mathlib.Core.List.{List, [], _∷_, _++_, append-assoc, append-nil}
 use mathlib.Core.Path.{_≡_, refl, sym, ap, subst, _∙_}
 use Prim.Native.Nat.{ℕ, _+_, _≤_}

@@ -30,7 +30,8 @@ fn put_bytes(out: &mut [u8], at: usize, bytes: &[u8]) -> usize
 // Writes a blank and a number.
 fn put_number(out: &mut [u8], at: usize, x: u64) -> usize
     requires { ⌜ at + 21 ≤ length (now out) ⌝ }
-    ensures { λ r. ⌜ (r ≡ at + length (spaced (x ∷ []))) × (now (out .exit) ≡ splice (now (out .entry)) at (spaced (x ∷ []))) ⌝ }
+    ensures { λ r. ⌜ (r ≡ at + length (spaced (x ∷ [])))
+        × (now (out .exit) ≡ splice (now (out .entry)) at (spaced (x ∷ []))) ⌝ }
     ensures { λ r. ⌜ r ≤ at + 21 ⌝ }
 {
     let digits = put_byte(out, at, b' ');
@@ -55,7 +56,8 @@ fn put_sheet(out: &mut [u8], at: usize, xs: [u64; 13]) -> usize
 // Writes the line for a case.
 fn put_answer(out: &mut [u8], at: usize, a: Rated) -> usize
     requires { ⌜ at + 512 ≤ length (now out) ⌝ }
-    ensures { λ r. ⌜ (r ≡ at + length (textOf (answerOf a))) × (now (out .exit) ≡ splice (now (out .entry)) at (textOf (answerOf a))) ⌝ }
+    ensures { λ r. ⌜ (r ≡ at + length (textOf (answerOf a)))
+        × (now (out .exit) ≡ splice (now (out .entry)) at (textOf (answerOf a))) ⌝ }
     ensures { λ r. ⌜ r ≤ at + 512 ⌝ }
 {
     let sheet = a.sheet;
@@ -68,7 +70,8 @@ fn put_answer(out: &mut [u8], at: usize, a: Rated) -> usize
 // Writes the line for an unreadable line.
 fn put_unreadable(out: &mut [u8], at: usize, number: u64) -> usize
     requires { ⌜ at + 512 ≤ length (now out) ⌝ }
-    ensures { λ r. ⌜ (r ≡ at + length (unreadableText number)) × (now (out .exit) ≡ splice (now (out .entry)) at (unreadableText number)) ⌝ }
+    ensures { λ r. ⌜ (r ≡ at + length (unreadableText number))
+        × (now (out .exit) ≡ splice (now (out .entry)) at (unreadableText number)) ⌝ }
     ensures { λ r. ⌜ r ≤ at + 512 ⌝ }
 {
     let digits = put_bytes(out, at, b"line ");

@@ -1,5 +1,5 @@
--- `answers::put_sheet` meets its contract. The invariant: the first i numbers stand from `at` on, in at most 21 bytes each. The measure
--- is how many are left.
+-- `answers::put_sheet` meets its contract. The invariant: the first i numbers stand from `at` on, in at most 21 bytes each. The
+-- measure is how many are left.
 -- Assumes nothing.
 use mathlib.Core.List.{List, [], _∷_, _++_}
 use mathlib.Core.Path.{_≡_, refl, sym, ap, _∙_}

@@ -5,3 +5,6 @@ pub mod Current
 pub mod Ranges
 pub mod LogRange
 pub mod TableRange
+pub mod LogEndsGap
+pub mod LogEndsSum
+pub mod LogEndsHold

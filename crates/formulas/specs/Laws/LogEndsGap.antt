@@ -1,0 +1,78 @@
+-- Stage 5's two ends lie at most 100 T-ths apart where a/b is below 2^15: the powers rounded up and down never differ by more than
+-- 3, so no term differs by more than 6. What follows from the logarithm is then known closely, whichever end it is taken from.
+-- Assumes nothing.
+use Prim.Native.Nat.{ℕ, zero, suc, _+_, _-_, _*_, _≤_, _<_}
+use native.Mathlib.Nat.{mul-le-mul-left, mul-le-mul-right, le-trans}
+use native.Mathlib.Omega.{arith}
+use lib.Dec.{lit<, lit≤}
+use Rattle.exact.specs.Rounding.{up, down, up-least, down-close, up-le-suc-down}
+use Rattle.formulas.specs.Constants.{tera, ln2Low, ln2High}
+use Rattle.formulas.specs.Logarithm.{doubled, series, firstPower, thirteenTerms, logLow, logHigh}
+use Rattle.formulas.specs.Laws.LogRange.{up-bounded, down-bounded, power-most, firstPower-most, octaves-most}
+
+-- a third, rounded up: what bounds the powers
+abbrev third : ℕ
+third = 333333333334
+
+third≤tera : third ≤ tera
+unfolding tera
+third≤tera = lit≤ tt
+
+-- the next power, where the two factors differ by c and by e
+power-gap :
+    (c e g p q p′ q′ : ℕ) → third * (c + e) ≤ 1000000000000 * g → p′ ≤ third → q ≤ third → p′ ≤ p + c → q′ ≤ q + e →
+    up (p′ * q′) tera ≤ down (p * q) tera + (g + 1)
+unfolding tera
+power-gap c e g p q p′ q′ small p′≤ q≤ p-near q-near =
+    up-least (p′ * q′) (down (p * q) 1000000000000 + (g + 1)) (lit< tt)
+    (omega (
+      arith,
+      down-close (p * q) {b = 1000000000000} (lit< tt),
+      mul-le-mul-left p′ q-near,
+      mul-le-mul-right q p-near,
+      mul-le-mul-right e p′≤,
+      mul-le-mul-left c q≤,
+    ))
+
+term-gap : (j p p′ : ℕ) → p′ ≤ p + 3 → up (2 * p′) (2 * j + 1) ≤ down (2 * p) (2 * j + 1) + 6
+term-gap j p p′ near =
+    up-least (2 * p′) _ {b = 2 * j + 1} (omega arith) (omega (arith, down-close (2 * p) {b = 2 * j + 1} (omega arith)))
+
+series-gap :
+    (q q′ : ℕ) → q ≤ third → q′ ≤ tera → q′ ≤ q + 2 → (terms j p p′ : ℕ) → p′ ≤ third → p′ ≤ p + 3 →
+    series up q′ terms j p′ ≤ series down q terms j p + 6 * terms
+unfolding series
+series-gap q q′ q≤ q′≤ q-near zero j p p′ p′≤ near = omega arith
+series-gap q q′ q≤ q′≤ q-near (suc terms) j p p′ p′≤ near =
+    omega (
+      arith,
+      term-gap j p p′ near,
+      series-gap q q′ q≤ q′≤ q-near terms (j + 1) (down (p * q) tera) (up (p′ * q′) tera)
+          (power-most up-bounded p′ q′ third q′≤ p′≤)
+          (power-gap 3 2 2 p q p′ q′ (lit≤ tt) p′≤ q≤ near q-near),
+    )
+
+thirteenTerms-gap : (p p′ : ℕ) → p ≤ third → p′ ≤ third → p′ ≤ p + 1 → thirteenTerms up p′ ≤ thirteenTerms down p + 78
+unfolding thirteenTerms
+thirteenTerms-gap p p′ p≤ p′≤ near =
+    series-gap (down (p * p) tera) (up (p′ * p′) tera)
+    (power-most down-bounded p p third (le-trans p≤ third≤tera) p≤)
+    (le-trans (power-most up-bounded p′ p′ third (le-trans p′≤ third≤tera) p′≤) third≤tera)
+    (power-gap 1 1 1 p p p′ p′ (lit≤ tt) p′≤ p≤ near near)
+    13 0 p p′ p′≤ (omega arith)
+
+firstPower-gap : (a b : ℕ) → 0 < b → b ≤ a → firstPower up a b ≤ firstPower down a b + 1
+unfolding firstPower
+firstPower-gap a b b>0 b≤a = up-le-suc-down ((a - doubled a b) * tera) {b = a + doubled a b} (omega arith)
+
+pub log-gap : (a b : ℕ) → 0 < b → b ≤ a → a < 32768 * b → logHigh a b ≤ logLow a b + 100
+unfolding logHigh logLow ln2High ln2Low
+log-gap a b b>0 b≤a a< =
+    omega (
+      arith,
+      thirteenTerms-gap (firstPower down a b) (firstPower up a b)
+          (firstPower-most down-bounded a b b>0 b≤a)
+          (firstPower-most up-bounded a b b>0 b≤a)
+          (firstPower-gap a b b>0 b≤a),
+      octaves-most a b b>0 b≤a a<,
+    )

@@ -1,0 +1,58 @@
+// Reads cases from standard input as the program rate does, and prints for each a work sheet for a person. The text of a sheet is
+// `worksheet::work_sheet`; here are the buffers, the loop over the lines and the writing.
+ghost use Prim.Native.Nat.{_≤_};
+ghost use lib.ListN.{length};
+use libc::STDOUT_FILENO;
+
+fn send(out: &[u8], used: usize)
+    requires { ⌜ used ≤ length (now out) ⌝ }
+{
+    io::write_all(STDOUT_FILENO, &out[..used]);
+}
+
+// A heading with the case's line number, and its sheet.
+fn show_case(out: &mut [u8], number: u64, x: [u32; 26]) {
+    io::write_all(STDOUT_FILENO, b"CASE on line ");
+    io::print_decimal(STDOUT_FILENO, number);
+    io::write_all(STDOUT_FILENO, b"\n");
+    let used = worksheet::work_sheet(out, x, rating::rate::rate(x));
+    send(out, used);
+}
+
+// A line that is no case has the text that the program rate prints for it.
+fn show(out: &mut [u8], number: u64, line: &[u8], len: usize)
+    requires { ⌜ (512 ≤ length (now out)) × (len ≤ length (now line)) ⌝ }
+{
+    let part = &line[..len];
+    let said = text::line::read_line(part);
+    if said.kind == 1 {
+        let fields = said.fields;
+        show_case(out, number, fields);
+        return;
+    }
+    let used = answers::print_line(out, 0, number, part);
+    send(out, used);
+}
+
+fn serve(chunk: &mut [u8], line: &mut [u8], out: &mut [u8])
+    requires { ⌜ 512 ≤ length (now out) ⌝ }
+{
+    let mut from = input::start();
+    let mut number: u64 = 0;
+    while number < u64::MAX {
+        let next = input::next_line(chunk, line, from);
+        if !next.found {
+            return;
+        }
+        number += 1;
+        show(out, number, line, next.len);
+        from = next.next;
+    }
+}
+
+fn main() {
+    let mut chunk = io::large_buffer();
+    let mut line = [0u8; 1024];
+    let mut out = io::large_buffer();
+    serve(&mut chunk, &mut line, &mut out);
+}

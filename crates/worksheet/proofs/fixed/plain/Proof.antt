@@ -1,0 +1,13 @@
+-- `worksheet::fixed::plain` meets its contract: a field is no less than zero.
+-- Assumes nothing.
+use mathlib.Core.Path.{refl}
+use Rattle.worksheet.specs.Fixed.{number}
+use Rattle.worksheet.proofs.fixed.plain.Statement.{statement}
+use Rattle.worksheet.proofs.fixed.plain.Tie as tie
+
+returns : tie.Need-returns
+unfolding number
+returns c = refl
+
+pub plain-spec : {M : Type 1} → statement M
+plain-spec = tie.close (tie.spec returns)

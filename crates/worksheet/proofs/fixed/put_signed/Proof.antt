@@ -1,0 +1,62 @@
+-- `worksheet::fixed::put_signed` meets its contract: the sign, and the digits after it.
+-- Assumes nothing.
+use mathlib.Core.List.{List, [], _∷_}
+use mathlib.Core.Path.{ap, _∙_}
+use Prim.Native.Nat.{ℕ}
+use native.Mathlib.Omega.{arith}
+use borrow.Author.Needs.{needs}
+use Rattle.text.specs.Splice.{splice}
+use Rattle.worksheet.specs.Fixed.{fixed, signed}
+use Rattle.worksheet.proofs.Splices.{splice-after}
+use Rattle.worksheet.proofs.fixed.put_signed.Statement.{statement}
+use Rattle.worksheet.proofs.fixed.put_signed.Tie as tie
+
+put-byte-requires : tie.Need-put-byte-requires
+put-byte-requires c κs = search needs
+
+put-fixed-requires : tie.Need-put-fixed-requires
+put-fixed-requires c κs = search needs
+
+same-length : tie.Need-same-length
+same-length c = search needs
+
+-- below zero
+returns : tie.Need-returns
+unfolding signed
+returns c =
+    let byte = c .before .before .before .before .before .before in
+    let start = byte .before .before .before .before in
+    let a = start .args in
+    let l = a .out .now in
+    let digits = fixed (a .decimals) (a .v .size) in
+    let minus = byte .put-byte .ensures in
+    let e = c .before .before .put-fixed .ensures in
+    rw (byte .before .before .if1 .taken) (
+      omega arith,
+      e .1
+          ∙ ap (λ (t : List ℕ). splice t (byte .put-byte .result) digits) (minus .1)
+          ∙ ap (λ (k : ℕ). splice (splice l (a .at) (45 ∷ [])) k digits) (minus .0)
+          ∙ splice-after l (a .at) (45 ∷ []) digits (omega arith),
+    )
+
+put-fixed-requires-2 : tie.Need-put-fixed-requires-2
+put-fixed-requires-2 c κs = search needs
+
+same-length-2 : tie.Need-same-length-2
+same-length-2 c = search needs
+
+returns-2 : tie.Need-returns-2
+unfolding signed
+returns-2 c = rw (c .before .before .before .before .if1 .left) (c .before .before .put-fixed2 .ensures)
+
+pub put-signed-spec : {M : Type 1} → statement M
+put-signed-spec =
+    tie.close
+    (tie.spec
+    put-byte-requires
+    put-fixed-requires
+    same-length
+    returns
+    put-fixed-requires-2
+    same-length-2
+    returns-2)

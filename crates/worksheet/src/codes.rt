@@ -1,0 +1,46 @@
+// The fields that are codes, in words.
+ghost use Prim.Native.Nat.{_≤_};
+ghost use lib.ListN.{length};
+use crate::rows::put_row;
+
+// What the codes stand for, each in the row of its number.
+const ARRANGEMENTS: [u8; 237] = *b"
+  single-core, trefoil, bonded at both ends
+  single-core, flat, transposed, bonded at both ends
+  single-core, trefoil, bonded at one point
+  single-core, flat, bonded at one point, centre cable
+  three-core SL type, steel wire armour
+";
+
+const CONDUCTORS: [u8; 199] = *b"
+  copper, round, dried
+  copper, round, not dried
+  copper, segmental
+  aluminium, round, dried
+  aluminium, round, not dried
+  aluminium, 4 segments
+  aluminium, 5 segments
+  aluminium, 6 segments
+";
+
+const METALS: [u8; 70] = *b"  none
+  lead
+  aluminium
+  copper
+  bronze
+  stainless steel
+  steel
+";
+
+// What field i stands for, where it is a code.
+pub fn put_words(out: &mut [u8], at: usize, i: usize, code: u32) -> usize
+    requires { ⌜ at ≤ length (now out) ⌝ }
+    ensures { λ r. ⌜ r ≤ length (now (out .entry)) ⌝ }
+{
+    match i {
+        0 => put_row(out, at, &ARRANGEMENTS, code as usize),
+        1 => put_row(out, at, &CONDUCTORS, code as usize),
+        14 | 17 => put_row(out, at, &METALS, code as usize),
+        _ => at,
+    }
+}

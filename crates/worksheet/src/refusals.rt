@@ -1,0 +1,45 @@
+// A refusal, by its number.
+ghost use Prim.Native.Nat.{_≤_};
+ghost use lib.ListN.{length};
+use crate::rows::put_row;
+use crate::rows::put_text;
+
+// Each refusal's number and word, and its rule, in the row of its number.
+const WORDS: [u8; 108] = *b"
+1 arrangement
+2 conductor
+3 limit
+4 stray
+5 geometry
+6 heat
+7 metal
+8 skin
+9 eddy
+10 dielectric
+11 current
+";
+
+const RULES: [u8; 789] = *b"
+The arrangement must be one of 1 to 5.
+The conductor's code must be one of 1 to 8.
+A field is outside its limits, which stand in brackets (the armour's hold in arrangement 5).
+Arrangements 1 to 4 have no armour: its five fields must be 0.
+It must be that dc <= ds, 1.05 ds <= Di, Di <= d and d <= s; in arrangement 5 also 2 c <= dA.
+The conductor must be 5 K or more above the ambient, and neither sheath nor armour above it.
+The sheath must be lead in arrangements 3, 4 and 5, and the armour steel in 5.
+The skin and proximity formulas end where 8 pi f k / (10^7 R') is 7.84, for k = ks and kp.
+In arrangements 3 and 4 the eddy formula ends where Rs is 5 B, with B = 4 pi f / 10^7.
+The dielectric loss alone takes over nine tenths of the permitted rise.
+The rating would be over 5000 A.
+";
+
+pub fn put_refusal(out: &mut [u8], at: usize, number: u32) -> usize
+    requires { ⌜ at ≤ length (now out) ⌝ }
+    ensures { λ r. ⌜ r ≤ length (now (out .entry)) ⌝ }
+{
+    let at = put_text(out, at, b"REFUSED  ");
+    let at = put_row(out, at, &WORDS, number as usize);
+    let at = put_text(out, at, b"\n  ");
+    let at = put_row(out, at, &RULES, number as usize);
+    put_text(out, at, b"\n")
+}

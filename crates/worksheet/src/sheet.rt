@@ -1,0 +1,52 @@
+// The whole work sheet, with a blank line at its end.
+ghost use Prim.Native.Nat.{_≤_};
+ghost use lib.ListN.{length};
+use crate::fields::put_fields;
+use crate::fixed::plain;
+use crate::line::put_line;
+use crate::numbers::put_numbers;
+use crate::refusals::put_refusal;
+use crate::rows::put_text;
+use rating::rate::Rated;
+
+// The sheet and the rating of a case that is not refused.
+fn put_rated(out: &mut [u8], at: usize, r: Rated, armour: bool) -> usize
+    requires { ⌜ at ≤ length (now out) ⌝ }
+    ensures { λ n. ⌜ n ≤ length (now (out .entry)) ⌝ }
+{
+    let sheet = r.sheet;
+    let at = put_text(out, at, b"SHEET\n");
+    let at = put_numbers(out, at, sheet, armour);
+    let at = put_line(
+        out,
+        at,
+        b"RATING         A         largest continuous current",
+        0,
+        plain(r.rating),
+        3,
+        17,
+    );
+    put_text(out, at, b"\n")
+}
+
+// What became of the case.
+fn put_verdict(out: &mut [u8], at: usize, r: Rated, armour: bool) -> usize
+    requires { ⌜ at ≤ length (now out) ⌝ }
+    ensures { λ n. ⌜ n ≤ length (now (out .entry)) ⌝ }
+{
+    if r.answer == 0 {
+        return put_rated(out, at, r, armour);
+    }
+    put_refusal(out, at, r.answer)
+}
+
+// The armour is shown where there is one, and in a refused case, which shows all that was given.
+pub fn put_sheet(out: &mut [u8], at: usize, x: [u32; 26], r: Rated) -> usize
+    requires { ⌜ at ≤ length (now out) ⌝ }
+    ensures { λ n. ⌜ n ≤ length (now (out .entry)) ⌝ }
+{
+    let armoured = x[0] == 5;
+    let at = put_fields(out, at, x, armoured | (r.answer != 0));
+    let at = put_verdict(out, at, r, armoured);
+    put_text(out, at, b"\n")
+}

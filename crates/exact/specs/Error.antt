@@ -7,7 +7,7 @@ use native.Mathlib.Nat.{mul-pos, mul-le-mul-right, lt-of-mul-lt-mul-left, le-ref
 use native.Mathlib.Omega.{arith}
 use lib.Dec.{lit<}
 use Rattle.exact.specs.Rounding.{up, down}
-use Rattle.exact.specs.Fraction.{Fraction, _over_, whole, _+F_, _*F_, reciprocal, _/F_, _≤F_, _<F_, _≃F_, ≤F-refl, ≤F-trans, <F→≤F, ≃F→≤F, +F-mono, *F-mono, reciprocal-anti, +F-assoc, *F-comm, over≤up, up<over, down≤over, over<down}
+use Rattle.exact.specs.Fraction.{Fraction, _over_, whole, _+F_, _*F_, reciprocal, _/F_, _≤F_, _<F_, _≃F_, ≤F-refl, ≤F-trans, <F→≤F, ≃F→≤F, ≃F-sym, +F-mono, *F-mono, reciprocal-anti, +F-assoc, *F-comm, over≤up, up<over, down≤over, over<down}
 
 -- r parts in 10^12
 unfoldable pub parts : ℕ → Fraction
@@ -96,6 +96,17 @@ within-trans {r} {s} {c} {d} {x} {y} {z} p q =
       close =
           ≤F-trans z-above-x
           (rw +F-assoc (+F-mono x≤x (≃F→≤F (excess-add r s c d z (c≤c .left) (d≤d .left) (z≤z .left)))));
+    }
+
+-- the same values, written otherwise
+pub within-same : {r : ℕ} {c x x′ y y′ : Fraction} → x ≃F x′ → y ≃F y′ → Within r c x y → Within r c x′ y′
+within-same {r} {c} x≃ y≃ p =
+    record {
+      below = ≤F-trans (≃F→≤F (≃F-sym x≃)) (≤F-trans (p .below) (≃F→≤F y≃));
+      close =
+          ≤F-trans (≃F→≤F (≃F-sym y≃))
+          (≤F-trans (p .close)
+          (+F-mono (≃F→≤F x≃) (excess-mono (le-refl r) (≤F-refl c (rest-has-value p)) (≃F→≤F y≃))));
     }
 
 -- an absolute error that is at most s parts of the value is a relative one
@@ -251,3 +262,89 @@ within-up a {b} b>0 = record { below = over≤up a b>0; close = one-more (a over
 
 pub within-down : (a : ℕ) {b : ℕ} → 0 < b → Within 0 (whole 1) (whole (down a b)) (a over b)
 within-down a {b} b>0 = record { below = down≤over a b>0; close = one-more (whole (down a b)) (a over b) (lit< tt) b>0 (over<down a b>0) }
+
+-- Relative error alone: a factor keeps it, and rounding up adds s parts where the rounded value is at least 10^12/s.
+
+zero-times : (k : Fraction) → 0 < k .den → whole 0 *F k ≤F whole 0
+unfolding _*F_
+zero-times k k>0 = record { left = omega arith; right = lit< tt; across = omega arith }
+
+pub within-scale : {r : ℕ} {x y : Fraction} (k : Fraction) → 0 < k .den → Within r (whole 0) x y → Within r (whole 0) (k *F x) (k *F y)
+within-scale {x = x} {y} k k>0 p =
+    rw (*F-comm k x, *F-comm k y) (within-weaken (le-refl _) (zero-times k k>0) (within-times (≤F-refl k k>0) p))
+
+one-of : (s n : ℕ) → 1000000000000 ≤ s * n → whole 0 +F whole 1 ≤F parts s *F whole n
+unfolding parts _+F_ _*F_
+one-of s n h = record { left = lit< tt; right = lit< tt; across = omega arith }
+
+pub within-round :
+    (s : ℕ) {r a b : ℕ} {x : Fraction} → 0 < b → 1000000000000 ≤ s * up a b → Within r (whole 0) x (a over b) →
+    Within (r + s) (whole 0) x (whole (up a b))
+within-round s {r} {a} {b} b>0 large p =
+    within-weaken (omega arith) (≤F-refl (whole 0) (lit< tt))
+    (within-absorb s (one-of s (up a b) large) (within-trans p (within-up a b>0)))
+
+-- Relative errors alone: they add under a product, a reciprocal keeps them, and rounding down adds s parts where the value that
+-- is rounded is at least 10^12/s.
+
+no-rest : (x y : Fraction) → 0 < x .den → 0 < y .den → whole 0 *F x +F whole 0 *F y ≤F whole 0
+unfolding _+F_ _*F_
+no-rest x y x>0 y>0 = record { left = omega (arith, mul-pos x>0 y>0); right = lit< tt; across = omega arith }
+
+pub within-relative-product :
+    {r s : ℕ} {x y u v : Fraction} → Within r (whole 0) x y → Within s (whole 0) u v → Within (r + s) (whole 0) (x *F u) (y *F v)
+within-relative-product {y = y} {u} p q =
+    let u>0 = q .below .left in
+    let y>0 = p .below .right in
+    within-weaken (le-refl _) (no-rest u y u>0 y>0) (within-product (≤F-refl u u>0) (≤F-refl y y>0) p q)
+
+pub within-relative-reciprocal :
+    {r : ℕ} {x y : Fraction} → 0 < x .num → Within r (whole 0) x y → Within r (whole 0) (reciprocal y) (reciprocal x)
+unfolding _*F_ reciprocal
+within-relative-reciprocal {x = x} {y} x≠0 p =
+    within-weaken (le-refl _)
+    (zero-times (reciprocal (x *F y)) (mul-pos x≠0 (reciprocal-anti x≠0 (p .below) .left)))
+    (within-reciprocal x≠0 p)
+
+one-of-over : (s a b : ℕ) → 0 < b → 1000000000000 * b ≤ s * a → whole 1 ≤F parts s *F (a over b)
+unfolding parts _*F_
+one-of-over s a b b>0 h = record { left = lit< tt; right = omega arith; across = omega arith }
+
+pub within-round-down : (s a : ℕ) {b : ℕ} → 0 < b → 1000000000000 * b ≤ s * a → Within s (whole 0) (whole (down a b)) (a over b)
+within-round-down s a {b} b>0 large =
+    within-weaken (omega arith) (≤F-refl (whole 0) (lit< tt)) (within-absorb s (one-of-over s a b b>0 large) (within-down a b>0))
+
+-- Rounding up what is already off adds 1, or 1/t where the rounded values are over t.
+
+pub within-up-after : {r a b : ℕ} {c x : Fraction} → 0 < b → Within r c x (a over b) → Within r (c +F whole 1) x (whole (up a b))
+within-up-after {r} {a} {b} {c} b>0 p =
+    let together = within-trans p (within-up a b>0) in
+    within-weaken (omega arith) (≤F-refl (c +F whole 1) (rest-has-value together)) together
+
+up-over : (a : ℕ) {b t : ℕ} → 0 < b → 0 < t → Within 0 (1 over t) (a over b * t) (up a b over t)
+unfolding _*F_
+up-over a {b} {t} b>0 t>0 =
+    within-same
+    (record { left = mul-pos b>0 t>0; right = mul-pos b>0 t>0; across = omega arith })
+    (record { left = omega arith; right = t>0; across = omega arith })
+    (within-weaken (le-refl 0) (record { left = omega arith; right = t>0; across = omega arith })
+    (within-times (≤F-refl (1 over t) t>0) (within-up a b>0)))
+
+pub within-up-over :
+    {r a b t : ℕ} {c x : Fraction} → 0 < b → 0 < t → Within r c x (a over b * t) →
+    Within r (c +F (1 over t)) x (up a b over t)
+within-up-over {r} {a} {b} {t} {c} b>0 t>0 p =
+    let together = within-trans p (up-over a b>0 t>0) in
+    within-weaken (omega arith) (≤F-refl (c +F (1 over t)) (rest-has-value together)) together
+
+one-over : (s n : ℕ) {t : ℕ} → 0 < t → 1000000000000 ≤ s * n → whole 0 +F (1 over t) ≤F parts s *F (n over t)
+unfolding parts _+F_ _*F_
+one-over s n {t} t>0 h =
+    record { left = omega arith; right = omega arith; across = omega (arith, mul-le-mul-right (t * t) h, mul-le-mul-right t h) }
+
+-- the same as a relative error, where the rounded value is at least 10^12/s
+pub within-round-over :
+    (s : ℕ) {r a b t : ℕ} {x : Fraction} → 0 < b → 0 < t → 1000000000000 ≤ s * up a b → Within r (whole 0) x (a over b * t) →
+    Within (r + s) (whole 0) x (up a b over t)
+within-round-over s {a = a} {b} b>0 t>0 large p =
+    within-absorb s (one-over s (up a b) t>0 large) (within-up-over b>0 t>0 p)

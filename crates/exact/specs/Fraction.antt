@@ -103,6 +103,9 @@ pub <F-irrefl : {x : Fraction} → x <F x → ⊥
 pub ≃F→≤F : {x y : Fraction} → x ≃F y → x ≤F y
 ≃F→≤F p = record { left = p .left; right = p .right; across = le-of-eq (p .across) }
 
+pub ≃F-refl : (x : Fraction) → 0 < x .den → x ≃F x
+≃F-refl x d = record { left = d; right = d; across = refl }
+
 pub ≃F-sym : {x y : Fraction} → x ≃F y → y ≃F x
 ≃F-sym p = record { left = p .right; right = p .left; across = sym (p .across) }
 

@@ -41,6 +41,10 @@ use Rattle.exact.specs.Error.{
   within-saturate,
   within-up,
   within-down,
+  within-relative-product,
+  within-up-after,
+  within-up-over,
+  within-round-over,
 }
 
 seven-thirds-up : (7 ≤ up 7 3 * 3) × (up 7 3 * 3 < 7 + 3) × (up 7 3 ≡ 3) × (up 7 3 ≤ 3) × (0 < up 7 3) × (up (2 * 3 + 1) 3 ≡ 2 + 1)
@@ -163,3 +167,15 @@ saturated :
     Within 0 (whole 1 /F whole 960) ((7 over 3) /F (whole 960 +F whole 4 *F (7 over 3)))
     (whole (up 7 3) /F (whole 960 +F whole 4 *F whole (up 7 3)))
 saturated = within-saturate (lit< tt) (≤F-refl (whole 960) (lit< tt)) (≤F-refl (whole 4) (lit< tt)) above
+
+rounded-on :
+    Within (0 + 0) (whole 0) (whole 7 *F whole 7) (whole 7 *F whole 7) × Within 0 (whole 0 +F whole 1) (7 over 3) (whole (up 7 3))
+    × Within 0 (whole 0 +F (1 over 2)) (7 over 3 * 2) (up 7 3 over 2)
+    × Within (0 + 400000000000) (whole 0) (7 over 3 * 2) (up 7 3 over 2)
+unfolding up
+rounded-on = (
+  within-relative-product (within-refl (≤F-refl (whole 7) (lit< tt))) (within-refl (≤F-refl (whole 7) (lit< tt))),
+  within-up-after (lit< tt) (within-refl (≤F-refl (7 over 3) (lit< tt))),
+  within-up-over {b = 3} (lit< tt) (lit< tt) (within-refl (≤F-refl (7 over 3 * 2) (lit< tt))),
+  within-round-over 400000000000 {b = 3} (lit< tt) (lit< tt) (lit≤ tt) (within-refl (≤F-refl (7 over 3 * 2) (lit< tt))),
+)

@@ -32,8 +32,8 @@ pub record Between (low high denominator : ℕ) (x : Fraction) : Type 0 where
   pub at-most : x ≤F high over denominator
 
 -- what may stand for pi, for ln 2, and for a logarithm whose ends are low and high
-unfoldable pub IsPi : Fraction → Type 0
+abbrev pub IsPi : Fraction → Type 0
 IsPi x = Between piLow piHigh (10 ^ 10) x
 
-unfoldable pub IsLn2 : Fraction → Type 0
+abbrev pub IsLn2 : Fraction → Type 0
 IsLn2 x = Between ln2Low ln2High tera x

@@ -8,3 +8,15 @@ pub mod TableRange
 pub mod LogEndsGap
 pub mod LogEndsSum
 pub mod LogEndsHold
+pub mod CloseReactance
+pub mod CloseRise
+pub mod CloseUnitRise
+pub mod CloseConductor
+pub mod CloseResistance
+pub mod CloseDielectric
+pub mod CloseArmour
+pub mod CloseSpacing
+pub mod CloseSheath
+pub mod CloseEddy
+pub mod CloseScreening
+pub mod CloseInstances

@@ -41,7 +41,7 @@ unfoldable pub logHigh : ℕ → ℕ → ℕ
 logHigh a b = thirteenTerms up (firstPower up a b) + 1 + ln2High * octaves a b
 
 -- what may stand for the logarithm of a/b
-unfoldable pub IsLog : ℕ → ℕ → Fraction → Type 0
+abbrev pub IsLog : ℕ → ℕ → Fraction → Type 0
 IsLog a b x = Between (logLow a b) (logHigh a b) tera x
 
 -- the paper's ζ

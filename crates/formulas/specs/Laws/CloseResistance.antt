@@ -1,0 +1,180 @@
+-- Stage 4 against its exact values: u, h, g and yp within 132 parts in 10^12 and a few units of 10^-12, and the a.c. resistance R,
+-- whose factor is at least 1 and takes those units in, within 178 parts in 10^12. Assumes nothing.
+use Prim.Native.Nat.{ℕ, _+_, _*_, _^_, _≤_, _<_}
+use native.Mathlib.Nat.{mul-pos, mul-le-mul-right}
+use native.Mathlib.Omega.{arith}
+use lib.Dec.{lit<, lit≤}
+use Rattle.exact.specs.Fraction.{Fraction, _over_, whole, _+F_, _*F_, _≤F_, _≃F_, ≃F-refl, ≤F-refl, ≤F-trans, +F-comm, *F-comm, *F-assoc}
+use Rattle.exact.specs.Error.{
+  parts,
+  Within,
+  within-refl,
+  within-weaken,
+  within-same,
+  within-absorb,
+  within-sum,
+  within-times,
+  within-product,
+  within-scale,
+  within-round,
+}
+use Rattle.formulas.specs.Constants.{tera, IsPi}
+use Rattle.formulas.specs.Skin.{skinRatio, skinFactor, skinFactor*}
+use Rattle.formulas.specs.Proximity.{
+  spacingRatio,
+  proximityH,
+  proximityG,
+  proximityFactor,
+  acResistance,
+  spacingRatio*,
+  proximityH*,
+  proximityG*,
+  proximityFactor*,
+  acResistance*,
+}
+use Rattle.formulas.specs.Laws.Ranges.{
+  In,
+  skinRatioSquared-most,
+  factor-most,
+  spacingRatio-most,
+  proximityH-most,
+  proximityG-most,
+  proximityFactor-most,
+  acResistance-range,
+}
+use Rattle.formulas.specs.Laws.CloseConductor.{tera>0, Close, rewrite-above, round-up, at-most, saturate-times, skinFactor-close}
+
+-- Sums of values over T, and products of values that are at most 1.
+
+sum-close : {r c d n m : ℕ} {x y : Fraction} → Close r c x n → Close r d y m → Close r (c + d) (x +F y) (n + m)
+unfolding _+F_
+sum-close {c = c} {d} {n} {m} p q =
+    let same : (n over tera) +F (m over tera) ≃F n + m over tera =
+    record { left = mul-pos tera>0 tera>0; right = tera>0; across = omega arith }
+    in
+    let errors : (c over tera) +F (d over tera) ≤F c + d over tera =
+    record { left = mul-pos tera>0 tera>0; right = tera>0; across = omega arith }
+    in
+    rewrite-above same errors (within-sum p q)
+
+product-close :
+    {r s c d n m : ℕ} {x y : Fraction} → n ≤ 1000000000000 → m ≤ 1000000000000 → Close r c x n → Close s d y m →
+    Within (r + s) (c + d over tera) (x *F y) (n * m over tera * tera)
+unfolding _+F_ _*F_
+product-close {c = c} {d} {n} {m} n≤ m≤ p q =
+    let n≤1 : n over tera ≤F whole 1 = at-most 1 (omega arith) in
+    let m≤1 : m over tera ≤F whole 1 = at-most 1 (omega arith) in
+    let same : (n over tera) *F (m over tera) ≃F n * m over tera * tera = ≃F-refl _ (mul-pos tera>0 tera>0) in
+    let errors : (c over tera) *F whole 1 +F (d over tera) *F whole 1 ≤F c + d over tera =
+    record { left = omega (arith, mul-pos tera>0 tera>0); right = tera>0; across = omega arith }
+    in
+    rewrite-above same errors (within-product (≤F-trans (q .below) m≤1) n≤1 p q)
+
+no-units : whole 0 ≤F 0 over tera
+no-units = record { left = lit< tt; right = tera>0; across = omega arith }
+
+-- The proximity effect.
+
+pub spacingRatio-close : (dc : ℕ) {s : ℕ} → 0 < s → Close 0 1 (spacingRatio* dc s) (spacingRatio dc s)
+unfolding spacingRatio spacingRatio*
+spacingRatio-close dc {s} s>0 =
+    let ss>0 = mul-pos s>0 s>0 in
+    let same : dc * dc over s * s ≃F dc * dc * tera over s * s * tera =
+    record { left = ss>0; right = mul-pos ss>0 tera>0; across = omega arith }
+    in
+    round-up ss>0 (rewrite-above same no-units (within-refl (≤F-refl (dc * dc over s * s) ss>0)))
+
+pub proximityH-close : {x : Fraction} {g : ℕ} → Close 132 2 x g → Close 132 10 (proximityH* x) (proximityH g)
+unfolding proximityH proximityH*
+proximityH-close {x} {g} p =
+    let bottom>0 : 0 < 100 * g + 27 * tera = omega (arith, tera>0) in
+    let same : 118 * g * tera over (27 * tera + 100 * g) * tera ≃F 118 * g * tera over (100 * g + 27 * tera) * tera =
+    record { left = mul-pos (omega arith) tera>0; right = mul-pos bottom>0 tera>0; across = omega arith }
+    in
+    rw (+F-comm (whole 100 *F x) (whole 27))
+    (round-up bottom>0 (rewrite-above same (≤F-refl _ tera>0) (saturate-times 118 27 100 {d = 9} (lit< tt) (lit≤ tt) p)))
+
+pub proximityG-close :
+    {x y : Fraction} {u g : ℕ} → u ≤ 1000000000000 → g ≤ 254900000000 → Close 0 1 x u → Close 132 2 y g →
+    Close 132 4 (proximityG* x y) (proximityG u g)
+unfolding proximityG proximityG* tera _*F_
+proximityG-close {x} {y} {u} {g} u≤ g≤ p q =
+    let k = 312 over 1000 in
+    let product : Within 132 (3 over tera) (x *F y) (u * g over tera * tera) = product-close u≤ (omega arith) p q in
+    let same : (u * g over tera * tera) *F k ≃F 312 * u * g over 10 ^ 15 * tera =
+    record { left = lit< tt; right = lit< tt; across = omega arith }
+    in
+    let errors : (3 over tera) *F k ≤F 3 over tera = record { left = lit< tt; right = lit< tt; across = lit≤ tt } in
+    let scaled : Within 132 (3 over tera) (x *F y *F k) (312 * u * g over 10 ^ 15 * tera) =
+    rewrite-above same errors (within-times (≤F-refl k (lit< tt)) product)
+    in
+    round-up {c = 3} (lit< tt) (rw (*F-assoc k x y, *F-comm k (x *F y)) scaled)
+
+pub proximityFactor-close :
+    {x y : Fraction} {u g : ℕ} → u ≤ 1000000000000 → g ≤ 254900000000 → Close 0 1 x u → Close 132 2 y g →
+    Close 132 16 (proximityFactor* x y) (proximityFactor u g)
+unfolding proximityFactor proximityFactor*
+proximityFactor-close {u = u} {g} u≤ g≤ p q =
+    let sum≤ : proximityG u g + proximityH g ≤ 1000000000000 = omega (arith, proximityG-most u≤ g≤, proximityH-most g≤) in
+    round-up tera>0 (product-close u≤ sum≤ p (sum-close (proximityG-close u≤ g≤ p q) (proximityH-close q)))
+
+-- The a.c. resistance.
+
+one-close : Close 132 0 (whole 1) tera
+one-close =
+    let same : whole 1 ≃F tera over tera = record { left = lit< tt; right = tera>0; across = omega arith } in
+    rewrite-above same no-units (within-weaken (lit≤ tt) (≤F-refl (whole 0) (lit< tt)) (within-refl (≤F-refl (whole 1) (lit< tt))))
+
+-- c units are at most c parts of a value that is at least 1
+units-absorb : {r c n : ℕ} {x : Fraction} → tera ≤ n → Close r c x n → Within (r + c) (whole 0) x (n over tera)
+unfolding tera parts _*F_
+units-absorb {c = c} {n} n≥ p =
+    within-absorb c
+    (record { left = lit< tt; right = lit< tt; across = omega (arith, mul-le-mul-right (c * 1000000000000) n≥) }) p
+
+pub acResistance-close :
+    {r' ys yp : ℕ} {x y : Fraction} → In 36500000000 407000000000000 r' → ys ≤ 254900000000 → yp ≤ 680000000000 →
+    Close 132 2 x ys → Close 132 16 y yp → Within 178 (whole 0) (acResistance* r' x y) (whole (acResistance r' ys yp))
+unfolding acResistance acResistance* _*F_
+acResistance-close {r'} {ys} {yp} r'-range ys≤ yp≤ p q =
+    let total : Within 150 (whole 0) (whole 1 +F _ +F _) (tera + ys + yp over tera) =
+    units-absorb (omega arith) (sum-close (sum-close one-close p) q)
+    in
+    let scaled = within-scale (whole r') (lit< tt) total in
+    let same : whole r' *F (tera + ys + yp over tera) ≃F r' * (tera + ys + yp) over tera =
+    record { left = omega (arith, tera>0); right = tera>0; across = omega arith }
+    in
+    within-round 28 tera>0 (omega (arith, acResistance-range r'-range ys≤ yp≤))
+    (within-same (≃F-refl _ (scaled .below .left)) same scaled)
+
+-- The limit on z bounds ys and G, and the errors of all steps come together.
+
+skinFactor-most : (f k r' : ℕ) → skinRatio f k r' ≤ 7840000000000 → skinFactor f k r' ≤ 254900000000
+unfolding skinFactor
+skinFactor-most f k r' z≤ = factor-most (skinRatioSquared-most z≤)
+
+module _
+    {π : Fraction} {f ks kp r' dc s : ℕ}
+    (p : IsPi π) (f-range : In 1000 6500 f) (ks-range : In 120 1000 ks) (kp-range : In 120 1000 kp)
+    (r'-range : In 36500000000 407000000000000 r')
+    (zs≤ : skinRatio f ks r' ≤ 7840000000000) (zp≤ : skinRatio f kp r' ≤ 7840000000000)
+    (s>0 : 0 < s) (dc≤s : dc ≤ s) where
+  r'>0 : 0 < r'
+  r'>0 = omega (arith, r'-range .least)
+
+  pub resistance-within :
+      Within 178 (whole 0)
+      (acResistance* r' (skinFactor* π f ks r') (proximityFactor* (spacingRatio* dc s) (skinFactor* π f kp r')))
+      (whole (acResistance r' (skinFactor f ks r') (proximityFactor (spacingRatio dc s) (skinFactor f kp r'))))
+  resistance-within =
+      let u≤ = spacingRatio-most s>0 dc≤s in
+      let g≤ = skinFactor-most f kp r' zp≤ in
+      acResistance-close r'-range (skinFactor-most f ks r' zs≤) (proximityFactor-most u≤ g≤)
+      (skinFactor-close p f-range ks-range r'>0 zs≤)
+      (proximityFactor-close u≤ g≤ (spacingRatio-close dc s>0) (skinFactor-close p f-range kp-range r'>0 zp≤))
+
+  pub resistance-close :
+      Within 1000 (whole 0)
+      (acResistance* r' (skinFactor* π f ks r') (proximityFactor* (spacingRatio* dc s) (skinFactor* π f kp r')))
+      (whole (acResistance r' (skinFactor f ks r') (proximityFactor (spacingRatio dc s) (skinFactor f kp r'))))
+  resistance-close = within-weaken (lit≤ tt) (≤F-refl (whole 0) (lit< tt)) resistance-within

@@ -1,0 +1,140 @@
+-- Stage 10 from bounds on E and dd alone: the exact rise at the rating is at most the permitted rise, and at 2 mA more it is above.
+-- An arrangement adds only how close its own R, S, W and dd are. Assumes nothing.
+use mathlib.Core.Path.{_≡_, sym, _∙_, ap}
+use Prim.Native.Nat.{ℕ, _+_, _-_, _*_, _^_, _≤_, _<_}
+use native.Mathlib.Nat.{
+  le-refl,
+  le-trans,
+  le-of-eq,
+  lt-of-lt-of-le,
+  lt-of-le-of-lt,
+  add-le-add,
+  add-mul,
+  mul-assoc,
+  mul-pos,
+  mul-le-mul-right,
+  mul-le-mul-left,
+  mul-lt-mul-of-pos-right,
+  lt-of-mul-lt-mul-left,
+}
+use native.Mathlib.Omega.{arith}
+use lib.Dec.{lit<}
+use Rattle.exact.specs.Fraction.{Fraction, whole, _+F_, _*F_, reciprocal, square, _≤F_, _<F_, ≤F-refl, ≤F-trans, +F-mono, *F-mono}
+use Rattle.exact.specs.Error.{parts, Within}
+use Rattle.formulas.specs.Rating.{rise*}
+use Rattle.formulas.specs.Laws.Current.{IsRating}
+
+-- E and dd with their exact values, N and the permitted rise P, and the rating i that refusals 10 and 11 let pass
+pub record Rated (e* dd* : Fraction) (e dd n p i : ℕ) : Type 0 where
+  pub e-close : Within 160000 (whole 0) e* (whole e)
+  pub dd-close : Within 2500 (whole 2) dd* (whole dd)
+  pub left : n + dd ≡ p
+  pub shares : 10 * dd ≤ 9 * p
+  pub warm : 5000000000 ≤ p
+  pub rating : IsRating n e i
+  pub most : i ≤ 5000000
+
+module _ {e* dd* : Fraction} {e dd n p i : ℕ} (r : Rated e* dd* e dd n p i) where
+  pub rise-safe : rise* (whole i) e* dd* ≤F whole p
+  unfolding rise* _*F_ _+F_ reciprocal
+  rise-safe =
+      ≤F-trans
+      (+F-mono
+      (*F-mono (*F-mono (≤F-refl (square (whole i)) (lit< tt)) (r .e-close .below)) (≤F-refl (reciprocal (whole (10 ^ 13))) (lit< tt)))
+      (r .dd-close .below))
+      (record { left = lit< tt; right = lit< tt; across = omega (arith, r .rating .carried, r .left) })
+
+-- What a bound says of the lower value: x is at least y less its excess.
+
+lower-relative : {k y : ℕ} {x : Fraction} → Within k (whole 0) x (whole y) → 1000000000000 * (y * x .den) ≤ 1000000000000 * x .num + k * (y * x .den)
+unfolding parts _+F_ _*F_
+lower-relative p = omega (arith, p .close .across)
+
+lower-absolute :
+    {k y : ℕ} {x : Fraction} → Within k (whole 2) x (whole y) →
+    1000000000000 * (y * x .den) ≤ 1000000000000 * x .num + k * (y * x .den) + 2000000000000 * x .den
+unfolding parts _+F_ _*F_
+lower-absolute p = omega (arith, p .close .across)
+
+-- The step from i + 1 to i + 2 is at least 2 parts in 5000001 of the square.
+squares : (i e : ℕ) → i ≤ 5000000 → 5000003 * ((i + 1) * (i + 1) * e) ≤ 5000001 * ((i + 2) * (i + 2) * e)
+squares i e i≤ =
+    let square≤ : (i + 1) * (i + 1) ≤ 5000001 * (i + 1) = mul-le-mul-right (i + 1) (omega arith) in
+    let plain : 5000003 * ((i + 1) * (i + 1)) ≤ 5000001 * ((i + 2) * (i + 2)) = omega arith in
+    omega (arith, mul-le-mul-right e plain)
+
+-- So it is more than the errors of E and dd together. The numbers are long, so each sum is a lemma of its own.
+
+in-all : (n : ℕ) → 10 ^ 25 * n + 2500 * (10 ^ 13 * (9 * n)) + 40000000000000000 * n ≡ 10000000265000000000000000 * n
+in-all n = omega arith
+
+in-parts : (x m : ℕ) → x < 999999840000 * m → x + 160000 * m < 10 ^ 12 * m
+in-parts x m h = omega arith
+
+step :
+    (m dd n : ℕ) → 10000003900000 * n ≤ m → dd ≤ 9 * n → 500000000 ≤ n →
+    10 ^ 25 * n + 2500 * (10 ^ 13 * dd) + 2 * 10 ^ 25 + 160000 * m < 10 ^ 12 * m
+step m dd n m≥ dd≤ n≥ =
+    let lost : 2500 * (10 ^ 13 * dd) ≤ 2500 * (10 ^ 13 * (9 * n)) = mul-le-mul-left 2500 (mul-le-mul-left (10 ^ 13) dd≤) in
+    let units : 2 * 10 ^ 25 ≤ 40000000000000000 * n = mul-le-mul-left 40000000000000000 n≥ in
+    let errors : 10 ^ 25 * n + 2500 * (10 ^ 13 * dd) + 2 * 10 ^ 25 ≤ 10000000265000000000000000 * n =
+    le-trans (add-le-add (add-le-add (le-refl (10 ^ 25 * n)) lost) units) (le-of-eq (in-all n))
+    in
+    let n>0 : 0 < n = lt-of-lt-of-le (lit< tt) n≥ in
+    let less : 10000000265000000000000000 * n < 999999840000 * 10000003900000 * n = mul-lt-mul-of-pos-right (lit< tt) n>0 in
+    let main : 999999840000 * 10000003900000 * n ≤ 999999840000 * m = rw mul-assoc (mul-le-mul-left 999999840000 m≥) in
+    in-parts _ m (lt-of-le-of-lt errors (lt-of-lt-of-le less main))
+
+-- The three facts over one denominator: how far E* and dd* lie below E and dd, and the step.
+joined : (α β γ δ μ ν ξ η : ℕ) → μ ≤ ξ + ν → β ≤ η + γ + δ → α + γ + δ + ν < μ → α + β < ξ + η
+joined α β γ δ μ ν ξ η e-less dd-less step< = omega arith
+
+e-below : (m en ed dd e : ℕ) → 1000000000000 * (e * ed) ≤ 1000000000000 * en + 160000 * (e * ed) → 10 ^ 12 * (m * e * (ed * dd)) ≤ 10 ^ 12 * (m * en * dd) + 160000 * (m * e * (ed * dd))
+e-below m en ed dd e h = omega (arith, mul-le-mul-right (m * dd) h)
+
+dd-below :
+    (dn den ed dd : ℕ) → 1000000000000 * (dd * den) ≤ 1000000000000 * dn + 2500 * (dd * den) + 2000000000000 * den →
+    10 ^ 25 * (dd * (ed * den)) ≤ 10 ^ 25 * (dn * ed) + 2500 * (10 ^ 13 * (dd * (ed * den))) + 2 * 10 ^ 25 * (ed * den)
+dd-below dn den ed dd h = omega (arith, mul-le-mul-right (10 ^ 13 * ed) h)
+
+step-below :
+    (m n dd d : ℕ) → (10 ^ 25 * n + 2500 * (10 ^ 13 * dd) + 2 * 10 ^ 25 + 160000 * m) * d < 10 ^ 12 * m * d →
+    10 ^ 25 * (n * d) + 2500 * (10 ^ 13 * (dd * d)) + 2 * 10 ^ 25 * d + 160000 * (m * d) < 10 ^ 12 * (m * d)
+step-below m n dd d h = omega arith
+
+-- from 10^12 times the cross products to the cross products as the rise writes them
+crossed :
+    (m en ed dn den n dd p : ℕ) → n + dd ≡ p →
+    10 ^ 25 * (n * (ed * den)) + 10 ^ 25 * (dd * (ed * den)) < 10 ^ 12 * (m * en * den) + 10 ^ 25 * (dn * ed) →
+    p * (1 * ed * 10000000000000 * den) < (m * en * 1 * den + dn * (1 * ed * 10000000000000)) * 1
+crossed m en ed dn den n dd p sum h =
+    let whole-rise : n * (ed * den) + dd * (ed * den) ≡ p * (ed * den) = sym (add-mul n dd (ed * den)) ∙ ap (λ k. k * (ed * den)) sum in
+    lt-of-mul-lt-mul-left (10 ^ 12) (omega arith)
+
+module _ {e* dd* : Fraction} {e dd n p i : ℕ} (r : Rated e* dd* e dd n p i) where
+  enough : 10000003900000 * n ≤ (i + 2) * (i + 2) * e
+  enough = omega (arith, squares i e (r .most), r .rating .no-more)
+
+  dd-most : dd ≤ 9 * n
+  dd-most = omega (arith, r .left, r .shares)
+
+  n-least : 500000000 ≤ n
+  n-least = omega (arith, r .left, r .shares, r .warm)
+
+  pub rise-above : whole p <F rise* (whole (i + 2)) e* dd*
+  unfolding rise* _*F_ _+F_ reciprocal
+  rise-above =
+      let ed>0 = r .e-close .below .left in
+      let dd>0 = r .dd-close .below .left in
+      let m = (i + 2) * (i + 2) in
+      let less = mul-lt-mul-of-pos-right (step (m * e) dd n enough dd-most n-least) (mul-pos ed>0 dd>0) in
+      record {
+        left = lit< tt;
+        right = mul-pos (mul-pos (mul-pos (lit< tt) ed>0) (lit< tt)) dd>0;
+        across =
+            crossed m (e* .num) (e* .den) (dd* .num) (dd* .den) n dd p (r .left)
+            (joined _ _ _ _ _ _ _ _
+            (e-below m (e* .num) (e* .den) (dd* .den) e (lower-relative (r .e-close)))
+            (dd-below (dd* .num) (dd* .den) (e* .den) dd (lower-absolute (r .dd-close)))
+            (step-below (m * e) n dd (e* .den * dd* .den) less));
+      }

@@ -8,3 +8,6 @@ pub mod Sound
 pub mod Ranges
 pub mod Rise
 pub mod Passing
+pub mod Exact
+pub mod Close
+pub mod Margin

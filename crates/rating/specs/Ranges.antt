@@ -75,7 +75,7 @@ module _ {x : List ℕ} (fine : Sound x) where
   b-range = Law.reactance-range (fine .frequency)
 
   -- 2s/d is below 2^15
-  spacing-ratio : 2 * Field.spacing x < 32768 * Field.sheathDiameter x
+  pub spacing-ratio : 2 * Field.spacing x < 32768 * Field.sheathDiameter x
   spacing-ratio = omega (arith, fine .spacing, fine .sheathDiameter)
 
   pub spacingLogHigh-most : spacingLogHigh (Field.arrangement x) (Field.spacing x) (Field.sheathDiameter x) ≤ 18601776254712
@@ -92,7 +92,7 @@ module _ {x : List ℕ} (fine : Sound x) where
       (omega (arith, fine .apart))
       spacing-ratio
 
-  insulation-ratio : Field.insulationDiameter x < 32768 * Field.screenDiameter x
+  pub insulation-ratio : Field.insulationDiameter x < 32768 * Field.screenDiameter x
   insulation-ratio = omega (arith, fine .insulationDiameter, fine .screenDiameter)
 
   pub insulationLog-range : In 48780487804 18370727194525 (logLow (Field.insulationDiameter x) (Field.screenDiameter x))

@@ -1,12 +1,13 @@
--- No entry of the tables is above 1000, and no coefficient above 450: one test that antt computes over each whole table. A
--- conductor's metal is one of the table's.
+-- No entry of the tables is above 1000, no coefficient above 450, and no ks or kp below 120: one test that antt computes over each
+-- whole table. A conductor's metal is one of the table's.
 -- Assumes nothing.
 use mathlib.Core.Bool.{Bool, true, false, cond, _&&_}
 use mathlib.Core.List.{List, [], _∷_}
-use Prim.Native.Nat.{ℕ, zero, suc, _-_, _≤_}
+use Prim.Native.Nat.{ℕ, zero, suc, _-_, _≤_, _<_}
 use native.Mathlib.Omega.{arith}
 use lib.Dec.{T, leb, leb→le}
-use lib.ListN.{getD}
+use lib.ListN.{getD, length}
+use Rattle.formulas.specs.Laws.Ranges.{In}
 use Rattle.formulas.specs.Tables.{ksTable, kpTable, metalTable, entry, ks, kp, coefficient, conductorMetal}
 
 all-most : ℕ → List ℕ → Bool
@@ -46,3 +47,21 @@ conductorMetal-range code = go (leb code 3)
     go : (copper : Bool) → (1 ≤ cond copper 3 2) × (cond copper 3 2 ≤ 6)
     go true = omega arith
     go false = omega arith
+
+all-least : ℕ → List ℕ → Bool
+all-least m [] = true
+all-least m (n ∷ table) = leb m n && all-least m table
+
+getD-least : (m : ℕ) (table : List ℕ) → T (all-least m table) → (i : ℕ) → i < length table → m ≤ getD table i 0
+unfolding all-least
+getD-least m [] t i i< = omega arith
+getD-least m (n ∷ table) t zero i< = leb→le m n (left (leb m n) (all-least m table) t)
+getD-least m (n ∷ table) t (suc i) i< = getD-least m table (right (leb m n) (all-least m table) t) i (omega arith)
+
+pub ks-range : {code : ℕ} → In 1 8 code → In 120 1000 (ks code)
+unfolding ks entry ksTable all-least
+ks-range {code} p = record { least = getD-least 120 ksTable tt (code - 1) (omega (arith, p .least, p .most)); most = ks-most code }
+
+pub kp-range : {code : ℕ} → In 1 8 code → In 120 1000 (kp code)
+unfolding kp entry kpTable all-least
+kp-range {code} p = record { least = getD-least 120 kpTable tt (code - 1) (omega (arith, p .least, p .most)); most = kp-most code }

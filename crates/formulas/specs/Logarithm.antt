@@ -29,10 +29,14 @@ series round q (suc terms) j p = round (2 * p) (2 * j + 1) + series round q term
 unfoldable pub firstPower : (ℕ → ℕ → ℕ) → ℕ → ℕ → ℕ
 firstPower round a b = round ((a - doubled a b) * tera) (a + doubled a b)
 
--- the paper's sum over j = 0 to 12
+-- the paper's j = 0 to 12
+abbrev pub termCount : ℕ
+termCount = 13
+
+-- the paper's sum over them
 unfoldable pub thirteenTerms : (ℕ → ℕ → ℕ) → ℕ → ℕ
 unfolding series
-thirteenTerms round p = series round (round (p * p) tera) 13 0 p
+thirteenTerms round p = series round (round (p * p) tera) termCount 0 p
 
 unfoldable pub logLow : ℕ → ℕ → ℕ
 logLow a b = thirteenTerms down (firstPower down a b) + ln2Low * octaves a b

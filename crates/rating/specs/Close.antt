@@ -3,15 +3,13 @@ use mathlib.Core.Path.{_≡_, refl}
 use mathlib.Core.Bool.{Bool, true, false, cond}
 use mathlib.Core.List.{List}
 use Prim.Native.Nat.{ℕ, _*_, _≤_, _<_}
-use native.Mathlib.Nat.{le-trans, mul-le-mul-right}
+use native.Mathlib.Nat.{mul-le-mul-right}
 use native.Mathlib.Omega.{arith}
 use lib.Dec.{eqb, lit<, lit≤}
 use borrow.Author.Tests.{eqb-true}
-use Rattle.exact.specs.Fraction.{Fraction, whole, _≤F_, ≤F-refl}
+use Rattle.exact.specs.Fraction.{whole, _≤F_, ≤F-refl}
 use Rattle.exact.specs.Error.{Within, within-refl, within-weaken}
-use Rattle.formulas.specs.Tables.{ks, kp, coefficient}
 use Rattle.formulas.specs.Resistance.{resistance}
-use Rattle.formulas.specs.Spacing.{spacingLogHigh, sheathReactance, sheathReactanceLow}
 use Rattle.formulas.specs.Sheath.{circulatingLoss, slLoss, eddyLoss, circulatingLoss*, slLoss*, eddyLoss*}
 use Rattle.formulas.specs.Armour.{armourLoss, armourLoss*}
 use Rattle.formulas.specs.Laws.Ranges as Law
@@ -28,7 +26,7 @@ use Rattle.formulas.specs.Laws.CloseUnitRise.{unitRise-close}
 use Rattle.rating.specs.Fields as Field
 use Rattle.rating.specs.Screening.{armoured, eddying}
 use Rattle.rating.specs.Sound.{Sound, SoundArmour}
-use Rattle.rating.specs.Values.{coresOf, rcOf, rsOf, raOf, bOf, zsOf, zpOf, ysOf, ypOf, rOf, xOf, xLowOf, sOf, wOf, wdOf, ddOf, eOf}
+use Rattle.rating.specs.Values.{coresOf, rsOf, raOf, bOf, zsOf, zpOf, ysOf, ypOf, rOf, xOf, xLowOf, sOf, wOf, wdOf, ddOf, eOf}
 use Rattle.rating.specs.Ranges.{rc-range, rs-range, b-range, r-range, cores-most, spacing-ratio, insulation-ratio}
 use Rattle.rating.specs.Exact.{Chosen, bOf*, rOf*, xOf*, sOf*, wOf*, wdOf*, ddOf*, eOf*}
 

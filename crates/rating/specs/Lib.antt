@@ -11,3 +11,4 @@ pub mod Passing
 pub mod Exact
 pub mod Close
 pub mod Margin
+pub mod Instances

@@ -1,23 +1,24 @@
 -- Demand 3 for a case: whichever fractions stand for pi, ln 2 and the logarithms, the exact rise at the rating is at most the permitted
--- rise, and at 2 mA more it is above. The premise is that the case is rated. Assumes nothing.
+-- rise, and at 2 mA more, or 1 mA and a ten-millionth of the rating, it is above. The premise is that the case is rated. Assumes nothing.
 use mathlib.Core.Path.{_≡_, refl, sym, _∙_, ap}
 use mathlib.Core.Bool.{Bool, true, false, cond, _&&_, _||_, false≢true}
 use mathlib.Core.List.{List}
 use Prim.Native.Nat.{ℕ, suc, _+_, _*_, _^_, _≤_, _<_}
-use native.Mathlib.Nat.{suc-ne-zero}
+use native.Mathlib.Nat.{suc-ne-zero, lt-of-not-le, mul-le-mul}
 use native.Mathlib.Omega.{arith}
-use lib.Dec.{eqb, ltb}
+use lib.Dec.{eqb}
 use borrow.Author.Tests.{ltb-false, eqb-true, eqb-false}
-use Rattle.exact.specs.Fraction.{whole, _≤F_, _<F_}
+use Rattle.exact.specs.Fraction.{_over_, whole, _≤F_, _<F_}
 use Rattle.formulas.specs.Refusals.{skinRefused, eddyRefused, dielectricRefused, currentRefused}
 use Rattle.formulas.specs.Dielectric.{permittedRise, currentRise}
+use Rattle.formulas.specs.Laws.Ranges.{unitRise-most}
 use Rattle.formulas.specs.Laws.Current.{rating-largest}
 use Rattle.formulas.specs.Laws.CloseRise as Law
 use Rattle.rating.specs.Screening.{screen, eddying}
 use Rattle.rating.specs.Sound.{sound}
 use Rattle.rating.specs.Values.{bOf, rsOf, zsOf, zpOf, ddOf, riseOf, eOf, currentOf}
-use Rattle.rating.specs.Rate.{Answer, refused, rated, loaded, judged, rateOf}
-use Rattle.rating.specs.Ranges.{r-range, e-least}
+use Rattle.rating.specs.Rate.{Answer, refused, rated, loaded, judged, rateOf, rateOf-is}
+use Rattle.rating.specs.Ranges.{r-range, s-most, w-most, cores-most, e-least}
 use Rattle.rating.specs.Rise.{rise-range}
 use Rattle.rating.specs.Exact.{Chosen, eOf*, ddOf*, exactRise, permittedOf}
 use Rattle.rating.specs.Close.{Fit, dd-close, e-close}
@@ -47,11 +48,12 @@ record Passed (x : List ℕ) : Type 0 where
   answer : rateOf x ≡ rated x
 
 all-passed : (x : List ℕ) → rateOf x .number ≡ 0 → Passed x
-unfolding rateOf judged loaded
+unfolding judged loaded
 all-passed x none-given =
     let number : Answer → ℕ = λ a. a .number in
-    let screening = screened (eqb (screen x) 0) (screen x) (judged x) refl none-given in
-    let after-screening = sym (ap number (screening .1)) ∙ none-given in
+    let from-tests = sym (ap number (rateOf-is x)) ∙ none-given in
+    let screening = screened (eqb (screen x) 0) (screen x) (judged x) refl from-tests in
+    let after-screening = sym (ap number (screening .1)) ∙ from-tests in
     let skin = passed (skinRefused (zsOf x) (zpOf x)) 7 _ after-screening in
     let after-skin = sym (ap number (skin .1)) ∙ after-screening in
     let eddies = passed (eddying x && eddyRefused (bOf x) (rsOf x)) 8 _ after-skin in
@@ -65,7 +67,7 @@ all-passed x none-given =
       eddies = eddies .0;
       dielectric = dielectric .0;
       current = current .0;
-      answer = screening .1 ∙ skin .1 ∙ eddies .1 ∙ dielectric .1 ∙ current .1;
+      answer = rateOf-is x ∙ screening .1 ∙ skin .1 ∙ eddies .1 ∙ dielectric .1 ∙ current .1;
     }
 
 neither : (a b : Bool) → a || b ≡ false → (a ≡ false) × (b ≡ false)
@@ -108,6 +110,24 @@ module _ {x : List ℕ} (c : Chosen x) (p : Passed x) where
         most = ltb-false _ _ (p .current);
       }
 
+  -- E is at most 2.21 × 10^17 and N at least half a kelvin, so no rating is below 14 mA
+  current-least : 14 ≤ currentOf x
+  unfolding eOf
+  current-least =
+      let fine = fit .sound in
+      let e-most =
+      unitRise-most (cores-most fine) (r-range fine (fit .skin) (fit .proximity) .most) (s-most fine (fit .eddies)) (w-most fine)
+      (fine .t1 .most)
+      (fine .t2 .most)
+      (fine .t3 .most)
+      (fine .t4 .most)
+      in
+      let n≥ = Law.n-least rated-at in
+      let more : 14 < currentOf x + 1 =
+      lt-of-not-le (λ few. omega (arith, mul-le-mul (mul-le-mul few few) e-most, rated-at .rating .no-more, n≥))
+      in
+      omega arith
+
 module _ (x : List ℕ) (c : Chosen x) (is-rated : rateOf x .number ≡ 0) where
   pub safe : exactRise x c (whole (rateOf x .rating)) ≤F whole (permittedOf x)
   unfolding exactRise rated
@@ -116,3 +136,8 @@ module _ (x : List ℕ) (c : Chosen x) (is-rated : rateOf x .number ≡ 0) where
   pub close : whole (permittedOf x) <F exactRise x c (whole (rateOf x .rating + 2))
   unfolding exactRise rated
   close = let p = all-passed x is-rated in rw (p .answer) (Law.rise-above (rated-at c p))
+
+  -- at I + 1 + I/10^7 already
+  pub nearer : whole (permittedOf x) <F exactRise x c (rateOf x .rating * 10000001 + 10000000 over 10000000)
+  unfolding exactRise rated
+  nearer = let p = all-passed x is-rated in rw (p .answer) (Law.rise-above-nearer (rated-at c p) (current-least c p))

@@ -1,5 +1,6 @@
 -- What `rate` answers to a case: the number of the first refusal that applies, in rising order, with rating 0 and a sheet of zeros;
 -- or 0, the rating of stage 10 and the sheet. Assumes nothing.
+use mathlib.Core.Path.{_≡_, refl}
 use mathlib.Core.Bool.{cond, _&&_}
 use mathlib.Core.List.{List, [], _∷_}
 use Prim.Native.Nat.{ℕ}
@@ -61,6 +62,11 @@ judged x =
     cond (skinRefused (zsOf x) (zpOf x)) (refused 8)
     (cond (eddying x && eddyRefused (bOf x) (rsOf x)) (refused 9) (loaded x))
 
--- refusals 1 to 7 before them
-unfoldable pub rateOf : List ℕ → Answer
+-- refusals 1 to 7 before them. It is shut: another crate names it and cites its theorems, and sees no stage.
+pub rateOf : List ℕ → Answer
 rateOf x = cond (eqb (screen x) 0) (judged x) (refused (screen x))
+
+-- for the proofs of this crate
+pub rateOf-is : (x : List ℕ) → rateOf x ≡ cond (eqb (screen x) 0) (judged x) (refused (screen x))
+unfolding rateOf
+rateOf-is x = refl

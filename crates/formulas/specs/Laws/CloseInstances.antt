@@ -11,15 +11,34 @@ use Rattle.formulas.specs.Constants.{tera, piLow, piHigh, ln2Low, ln2Hig
 use Rattle.formulas.specs.Reactance.{reactance, reactanceLow, reactance*}
 use Rattle.formulas.specs.Skin.{skinReactance, skinRatio, skinRatioSquared, factor, skinFactor, skinFactor*}
 use Rattle.formulas.specs.Proximity.{
-  spacingRatio, proximityH, proximityG, proximityFactor, acResistance, spacingRatio*, proximityFactor*, acResistance*
+  spacingRatio,
+  proximityH,
+  proximityG,
+  proximityFactor,
+  acResistance,
+  spacingRatio*,
+  proximityFactor*,
+  acResistance*,
 }
 use Rattle.formulas.specs.Logarithm.{doublings, octaves, doubled, series, firstPower, thirteenTerms, logLow, logHigh, IsLog}
 use Rattle.formulas.specs.Spacing.{
-  spacingLogHigh, spacingLogLow, sheathReactance, sheathReactanceLow, spacingLog*, sheathReactance*
+  spacingLogHigh,
+  spacingLogLow,
+  sheathReactance,
+  sheathReactanceLow,
+  spacingLog*,
+  sheathReactance*,
 }
 use Rattle.formulas.specs.Sheath.{bondRatio, bondRatioSquared, circulatingLoss, threeHalves, slLoss, circulatingLoss*, slLoss*, eddyLoss, eddyLoss*}
 use Rattle.formulas.specs.Armour.{
-  armourRatio, armourRatioSquared, armourResistance, unscreenedLoss, screeningRatioSquared, screenedLoss, armourLoss, armourLoss*
+  armourRatio,
+  armourRatioSquared,
+  armourResistance,
+  unscreenedLoss,
+  screeningRatioSquared,
+  screenedLoss,
+  armourLoss,
+  armourLoss*,
 }
 use Rattle.formulas.specs.Dielectric.{dielectricLoss, dielectricResistance, dielectricRise, dielectricLoss*, dielectricRise*}
 use Rattle.formulas.specs.Rating.{unitRise, unitRise*, rise*}

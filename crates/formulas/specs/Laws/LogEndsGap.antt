@@ -2,12 +2,12 @@
 -- 3, so no term differs by more than 6. What follows from the logarithm is then known closely, whichever end it is taken from.
 -- Assumes nothing.
 use Prim.Native.Nat.{ℕ, zero, suc, _+_, _-_, _*_, _≤_, _<_}
-use native.Mathlib.Nat.{mul-le-mul-left, mul-le-mul-right, le-trans}
+use native.Mathlib.Nat.{mul-le-mul-left, mul-le-mul-right, le-trans, add-le-add, le-refl}
 use native.Mathlib.Omega.{arith}
 use lib.Dec.{lit<, lit≤}
 use Rattle.exact.specs.Rounding.{up, down, up-least, down-close, up-le-suc-down}
 use Rattle.formulas.specs.Constants.{tera, ln2Low, ln2High}
-use Rattle.formulas.specs.Logarithm.{doubled, series, firstPower, thirteenTerms, logLow, logHigh}
+use Rattle.formulas.specs.Logarithm.{doubled, series, firstPower, termCount, thirteenTerms, logLow, logHigh}
 use Rattle.formulas.specs.Laws.LogRange.{up-bounded, down-bounded, power-most, firstPower-most, octaves-most}
 
 -- a third, rounded up: what bounds the powers
@@ -55,11 +55,13 @@ series-gap q q′ q≤ q′≤ q-near (suc terms) j p p′ p′≤ near =
 thirteenTerms-gap : (p p′ : ℕ) → p ≤ third → p′ ≤ third → p′ ≤ p + 1 → thirteenTerms up p′ ≤ thirteenTerms down p + 78
 unfolding thirteenTerms
 thirteenTerms-gap p p′ p≤ p′≤ near =
-    series-gap (down (p * p) tera) (up (p′ * p′) tera)
+    le-trans
+    (series-gap (down (p * p) tera) (up (p′ * p′) tera)
     (power-most down-bounded p p third (le-trans p≤ third≤tera) p≤)
     (le-trans (power-most up-bounded p′ p′ third (le-trans p′≤ third≤tera) p′≤) third≤tera)
     (power-gap 1 1 1 p p p′ p′ (lit≤ tt) p′≤ p≤ near near)
-    13 0 p p′ p′≤ (omega arith)
+    termCount 0 p p′ p′≤ (omega arith))
+    (add-le-add (le-refl _) (lit≤ tt))
 
 firstPower-gap : (a b : ℕ) → 0 < b → b ≤ a → firstPower up a b ≤ firstPower down a b + 1
 unfolding firstPower

@@ -9,7 +9,7 @@ use lib.Dec.{lit<}
 use Rattle.exact.specs.Rounding.{up, down, up-above, down-below}
 use Rattle.exact.specs.Fraction.{Fraction, whole, _+F_, _*F_, reciprocal, _≤F_, ≤F-refl, ≤F-trans, ≃F→≤F, ≃F-sym, +F-mono, *F-mono, *F-+F, whole-+F}
 use Rattle.formulas.specs.Constants.{tera}
-use Rattle.formulas.specs.Logarithm.{octaves, doubled, series, firstPower, thirteenTerms, zeta, artanhTerm, artanhSum, artanhRest}
+use Rattle.formulas.specs.Logarithm.{octaves, doubled, series, firstPower, termCount, thirteenTerms, zeta, artanhTerm, artanhSum, artanhRest}
 use Rattle.formulas.specs.Laws.Octaves.{Largest, octaves-largest}
 use Rattle.formulas.specs.Laws.LogEndsSum.{termsFrom, odd-power, term-pos, sum-split, sum-terms, rest-covers, rest-pos, sum-mono, sum-rest}
 
@@ -104,16 +104,16 @@ module _ (x : Fraction) (d>0 : 0 < x .den) (thrice : 3 * x .num ≤ x .den) wher
   thirds zero = omega (arith, pow-zero (x .num), pow-zero (x .den))
   thirds (suc k) = rw (pow-suc 3 k, pow-suc (x .num) k, pow-suc (x .den) k) (omega (arith, mul-le-mul (thirds k) thrice))
 
-  -- what thirteen terms leave out
-  rest-small : whole tera *F artanhRest x 13 ≤F whole 1
+  -- what the terms leave out
+  rest-small : whole tera *F artanhRest x termCount ≤F whole 1
   unfolding artanhRest artanhTerm _*F_ reciprocal tera
   rest-small =
-      let far : 1000000000000 * x .num ^ 27 ≤ x .den ^ 27 = omega (arith, thirds 27) in
+      let far : 1000000000000 * x .num ^ (2 * termCount + 1) ≤ x .den ^ (2 * termCount + 1) = omega (arith, thirds (2 * termCount + 1)) in
       let near : 8 * x .den ^ 2 ≤ 9 * (x .den ^ 2 - x .num ^ 2) = omega (arith, thirds 2) in
       record {
-        left = mul-pos (lit< tt) (rest-pos x n<d 13);
+        left = mul-pos (lit< tt) (rest-pos x n<d termCount);
         right = lit< tt;
-        across = omega (arith, mul-le-mul-right (x .den ^ 2) far, mul-le-mul-left (x .den ^ 27) near);
+        across = omega (arith, mul-le-mul-right (x .den ^ 2) far, mul-le-mul-left (x .den ^ (2 * termCount + 1)) near);
       }
 
   sums-up : (p : ℕ) → tera * x .num ≤ p * x .den → (n : ℕ) → whole tera *F artanhSum x n ≤F whole (thirteenTerms up p + 1)
@@ -123,10 +123,10 @@ module _ (x : Fraction) (d>0 : 0 < x .den) (thrice : 3 * x .num ≤ x .den) wher
       let squared : tera * x .num ^ 2 ≤ up (p * p) tera * x .den ^ 2 =
       rw (pow-two (x .num), pow-two (x .den)) (product-up _ _ _ _ p p _ hp hp (up-above (p * p) tera>0))
       in
-      ≤F-trans (*F-mono tera≤tera (sum-mono x n<d n 13))
-      (rw (add-comm n 13, sum-split x 13 n, sum-terms x 13)
-      (sum-up _ _ (terms-up (up (p * p) tera) squared 13 0 p first)
-      (≤F-trans (*F-mono tera≤tera (rest-covers x n<d n 13)) rest-small)))
+      ≤F-trans (*F-mono tera≤tera (sum-mono x n<d n termCount))
+      (rw (add-comm n termCount, sum-split x termCount n, sum-terms x termCount)
+      (sum-up _ _ (terms-up (up (p * p) tera) squared termCount 0 p first)
+      (≤F-trans (*F-mono tera≤tera (rest-covers x n<d n termCount)) rest-small)))
 
   sums-down :
       (p : ℕ) → p * x .den ≤ tera * x .num → (n : ℕ) → whole (thirteenTerms down p) ≤F whole tera *F (artanhSum x n +F artanhRest x n)
@@ -136,9 +136,9 @@ module _ (x : Fraction) (d>0 : 0 < x .den) (thrice : 3 * x .num ≤ x .den) wher
       let squared : down (p * p) tera * x .den ^ 2 ≤ tera * x .num ^ 2 =
       rw (pow-two (x .num), pow-two (x .den)) (product-down _ _ _ _ p p _ hp hp (down-below (p * p) tera))
       in
-      let longer : artanhSum x 13 ≤F artanhSum x (n + 13) = rw (add-comm n 13) (sum-mono x n<d 13 n) in
-      ≤F-trans (terms-down (down (p * p) tera) squared 13 0 p first)
-      (rw (← sum-terms x 13) (*F-mono tera≤tera (≤F-trans longer (sum-rest x n<d n 13))))
+      let longer : artanhSum x termCount ≤F artanhSum x (n + termCount) = rw (add-comm n termCount) (sum-mono x n<d termCount n) in
+      ≤F-trans (terms-down (down (p * p) tera) squared termCount 0 p first)
+      (rw (← sum-terms x termCount) (*F-mono tera≤tera (≤F-trans longer (sum-rest x n<d n termCount))))
 
 module _ (a b : ℕ) (b>0 : 0 < b) (b≤a : b ≤ a) where
   zeta-pos : 0 < zeta a b .den

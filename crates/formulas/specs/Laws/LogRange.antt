@@ -8,7 +8,7 @@ use lib.Dec.{lit<, lit≤}
 use lib.Pow.{pow-mono}
 use Rattle.exact.specs.Rounding.{up, down, up-least, down-most, down-most-above}
 use Rattle.formulas.specs.Constants.{tera, ln2Low, ln2High}
-use Rattle.formulas.specs.Logarithm.{octaves, doubled, series, firstPower, thirteenTerms, logLow, logHigh}
+use Rattle.formulas.specs.Logarithm.{octaves, doubled, series, firstPower, termCount, thirteenTerms, logLow, logHigh}
 use Rattle.formulas.specs.Laws.Octaves.{Largest, octaves-largest}
 
 -- a rounding that gives at most k for a quotient that is at most k, as both do
@@ -50,9 +50,11 @@ module _ {round : ℕ → ℕ → ℕ} (bounded : Bounded round) where
   pub thirteenTerms-most : (p : ℕ) → p ≤ 333333333334 → thirteenTerms round p ≤ 8666666666684
   unfolding thirteenTerms
   thirteenTerms-most p p≤ =
-      series-most (round (p * p) tera) 13 0 p 333333333334
+      le-trans
+      (series-most (round (p * p) tera) termCount 0 p 333333333334
       (le-trans (power-most p p 333333333334 (le-trans p≤ third≤tera) p≤) third≤tera)
-      p≤
+      p≤)
+      (lit≤ tt)
 
 pub octaves-most : (a b : ℕ) → 0 < b → b ≤ a → a < 32768 * b → octaves a b ≤ 14
 octaves-most a b b>0 b≤a a< =

@@ -2,7 +2,7 @@
 -- quotient fits. Each bound is proved from bounds on what goes in. Assumes nothing.
 use mathlib.Core.Bool.{Bool, true, false, cond}
 use Prim.Native.Nat.{ℕ, _+_, _*_, _≤_, _<_}
-use native.Mathlib.Nat.{le-trans, mul-le-mul, mul-le-mul-right, mul-pos}
+use native.Mathlib.Nat.{le-trans, add-le-add, mul-le-mul, mul-le-mul-right, mul-pos}
 use native.Mathlib.Omega.{arith}
 use lib.Dec.{eqb, lit<, lit≤}
 use lib.IntN.{ℤ, pos, negℤ}
@@ -248,3 +248,16 @@ unfolding unitRise
 unitRise-least n s w t2 t3 t4 {r} {t1} r≥ t1≥ =
     let first : 36500000 ≤ up (r * t1) 1000000 = up-least-below _ _ (lit< tt) (omega (arith, mul-le-mul r≥ t1≥)) in
     omega arith
+
+pub unitRise-most :
+    {n r s w t1 t2 t3 t4 : ℕ} → n ≤ 3 → r ≤ 788000000000000 → s ≤ 610500000000000 → w ≤ 500610000000000 → t1 ≤ 10000000 →
+    t2 ≤ 10000000 → t3 ≤ 10000000 → t4 ≤ 20000000 → unitRise n r s w t1 t2 t3 t4 ≤ 221000000000000000
+unfolding unitRise
+unitRise-most n≤ r≤ s≤ w≤ t1≤ t2≤ t3≤ t4≤ =
+    let first = up-least _ 7880000000000000 {b = 1000000} (lit< tt) (mul-le-mul r≤ t1≤) in
+    let second = up-least _ 41955000000000000 {b = 1000000} (lit< tt) (mul-le-mul (mul-le-mul n≤ (add-le-add r≤ s≤)) t2≤) in
+    let third =
+    up-least _ 170919900000000000 {b = 1000000} (lit< tt)
+    (mul-le-mul (mul-le-mul n≤ (add-le-add (add-le-add r≤ s≤) w≤)) (add-le-add t3≤ t4≤))
+    in
+    le-trans (add-le-add (add-le-add first second) third) (lit≤ tt)

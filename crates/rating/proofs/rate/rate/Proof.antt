@@ -2,7 +2,7 @@
 use borrow.Author.Needs.{needs}
 use mathlib.Core.Path.{_∙_, sym, ap}
 use borrow.Author.Tests.{eq-eqb, ne-eqb}
-use Rattle.rating.specs.Rate.{refused, rateOf}
+use Rattle.rating.specs.Rate.{refused, rateOf-is}
 use Rattle.rating.proofs.rate.rate.Statement.{statement}
 use Rattle.rating.proofs.rate.rate.Tie as tie
 
@@ -13,19 +13,17 @@ judge-requires : tie.Need-judge-requires
 judge-requires c κs = sym (c .before .screen .ensures) ∙ c .if1 .taken
 
 returns : tie.Need-returns
-unfolding rateOf
 returns c =
     let passed = sym (c .before .before .screen .ensures) ∙ c .before .if1 .taken in
-    simp (eq-eqb _ 0 passed) (c .judge .ensures)
+    rw rateOf-is (simp (eq-eqb _ 0 passed) (c .judge .ensures))
 
 refuse-requires : tie.Need-refuse-requires
 refuse-requires c κs = search needs
 
 returns-2 : tie.Need-returns-2
-unfolding rateOf
 returns-2 c =
     let first = c .before .before .screen .ensures in
-    simp (ne-eqb _ 0 (λ passed. c .before .if1 .left (first ∙ passed))) (c .refuse .ensures ∙ ap refused first)
+    rw rateOf-is (simp (ne-eqb _ 0 (λ passed. c .before .if1 .left (first ∙ passed))) (c .refuse .ensures ∙ ap refused first))
 
 pub rate-spec : {M : Type 1} → statement M
 rate-spec = tie.close (tie.spec screen-requires judge-requires returns refuse-requires returns-2)

@@ -1,11 +1,11 @@
 -- `worksheet::fixed::power_of_ten` meets its contract. The invariant: p is the power for the turns made. The measure is what is left of n.
 -- Assumes nothing.
 use mathlib.Core.Path.{_≡_, refl, sym, ap, _∙_}
-use Prim.Native.Nat.{ℕ, suc, _+_, _-_, _*_, _^_, _≤_, _<_, zero-le}
-use native.Mathlib.Nat.{pow-suc, pow-le-pow-right, le-trans}
+use Prim.Native.Nat.{ℕ, _+_, _-_, _*_, _^_, _≤_, _<_, zero-le}
+use native.Mathlib.Nat.{pow-suc, pow-le-pow-right}
 use native.Mathlib.Numerals.{add-one}
 use native.Mathlib.Omega.{arith}
-use lib.Dec.{lit<, lit≤}
+use lib.Dec.{lit<}
 use Rattle.worksheet.proofs.fixed.power_of_ten.Statement.{statement}
 use Rattle.worksheet.proofs.fixed.power_of_ten.Tie as tie
 

@@ -1,6 +1,6 @@
 -- `worksheet::rows::row_start` meets its contract. The invariant: the place is within the text. The measure is what is left of n.
 -- Assumes nothing.
-use Prim.Native.Nat.{ℕ, _-_, _≤_, zero-le}
+use Prim.Native.Nat.{_-_, _≤_, zero-le}
 use native.Mathlib.Nat.{le-refl}
 use native.Mathlib.Omega.{arith}
 use lib.ListN.{length}

@@ -27,15 +27,11 @@ use Rattle.rating.specs.Fields as Field
 use Rattle.rating.specs.Screening.{armoured, eddying}
 use Rattle.rating.specs.Sound.{Sound, SoundArmour}
 use Rattle.rating.specs.Values.{coresOf, rsOf, raOf, bOf, zsOf, zpOf, ysOf, ypOf, rOf, xOf, xLowOf, sOf, wOf, wdOf, ddOf, eOf}
-use Rattle.rating.specs.Ranges.{rc-range, rs-range, b-range, r-range, cores-most, spacing-ratio, insulation-ratio}
+use Rattle.rating.specs.Ranges.{cond-most, rc-range, rs-range, b-range, r-range, cores-most, spacing-ratio, insulation-ratio}
 use Rattle.rating.specs.Exact.{Chosen, bOf*, rOf*, xOf*, sOf*, wOf*, wdOf*, ddOf*, eOf*}
 
 at-most : {n m : ℕ} → n ≤ m → whole n ≤F whole m
 at-most n≤ = record { left = lit< tt; right = lit< tt; across = mul-le-mul-right 1 n≤ }
-
-cond-most : (b : Bool) {p q m : ℕ} → p ≤ m → q ≤ m → cond b p q ≤ m
-cond-most true p≤ q≤ = p≤
-cond-most false p≤ q≤ = q≤
 
 cond-least : (b : Bool) {p q m : ℕ} → m ≤ p → m ≤ q → m ≤ cond b p q
 cond-least true p≥ q≥ = p≥

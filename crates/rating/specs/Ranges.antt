@@ -49,7 +49,7 @@ pub above-cold : (θ : ℤ) → pos 4000 ≤ℤ θ → negℤ (pos 4000) ≤ℤ 
 above-cold (pos n) h = record { le = tt }
 above-cold (negsuc n) h = absurd (h .le)
 
-cond-most : (b : Bool) {p q m : ℕ} → p ≤ m → q ≤ m → cond b p q ≤ m
+pub cond-most : (b : Bool) {p q m : ℕ} → p ≤ m → q ≤ m → cond b p q ≤ m
 cond-most true p≤ q≤ = p≤
 cond-most false p≤ q≤ = q≤
 

@@ -18,13 +18,13 @@ use stages::tables::kp;
 use stages::tables::ks;
 
 // A word as a number for the stages, with its range.
-pub fn long(n: u32) -> u64
+pub(crate) fn long(n: u32) -> u64
     ensures { λ r. ⌜ (r ≡ n) × (r < 4294967296) ⌝ }
 {
     n as u64
 }
 
-pub fn cores(x: [u32; 26]) -> u64
+pub(crate) fn cores(x: [u32; 26]) -> u64
     ensures { λ r. ⌜ r ≡ coresOf x ⌝ }
 {
     if armoured(x) {
@@ -33,21 +33,21 @@ pub fn cores(x: [u32; 26]) -> u64
     1
 }
 
-pub fn conductor_resistance(x: [u32; 26]) -> u64
+pub(crate) fn conductor_resistance(x: [u32; 26]) -> u64
     requires { ⌜ screen x ≡ 0 ⌝ }
     ensures { λ r. ⌜ r ≡ rcOf x ⌝ }
 {
     resistance(x[5], coefficient(conductor_metal(x[1])), x[3])
 }
 
-pub fn sheath_resistance(x: [u32; 26]) -> u64
+pub(crate) fn sheath_resistance(x: [u32; 26]) -> u64
     requires { ⌜ screen x ≡ 0 ⌝ }
     ensures { λ r. ⌜ r ≡ rsOf x ⌝ }
 {
     resistance(x[15], coefficient(x[14]), x[16])
 }
 
-pub fn armour_resistance(x: [u32; 26]) -> u64
+pub(crate) fn armour_resistance(x: [u32; 26]) -> u64
     requires { ⌜ screen x ≡ 0 ⌝ }
     ensures { λ r. ⌜ r ≡ raOf x ⌝ }
 {
@@ -57,21 +57,21 @@ pub fn armour_resistance(x: [u32; 26]) -> u64
     0
 }
 
-pub fn reactance_of(x: [u32; 26]) -> u64
+pub(crate) fn reactance_of(x: [u32; 26]) -> u64
     requires { ⌜ screen x ≡ 0 ⌝ }
     ensures { λ r. ⌜ r ≡ bOf x ⌝ }
 {
     reactance(long(x[2]))
 }
 
-pub fn skin_ratio_of(x: [u32; 26], rc: u64) -> u64
+pub(crate) fn skin_ratio_of(x: [u32; 26], rc: u64) -> u64
     requires { ⌜ (screen x ≡ 0) × (rc ≡ rcOf x) ⌝ }
     ensures { λ r. ⌜ r ≡ zsOf x ⌝ }
 {
     skin_ratio(long(x[2]), long(ks(x[1])), rc)
 }
 
-pub fn proximity_ratio_of(x: [u32; 26], rc: u64) -> u64
+pub(crate) fn proximity_ratio_of(x: [u32; 26], rc: u64) -> u64
     requires { ⌜ (screen x ≡ 0) × (rc ≡ rcOf x) ⌝ }
     ensures { λ r. ⌜ r ≡ zpOf x ⌝ }
 {
@@ -86,7 +86,7 @@ fn difference(conductor: u32, ambient: u32) -> u64
     (signed(conductor) - signed(ambient)) as u64
 }
 
-pub fn rise(x: [u32; 26]) -> u64
+pub(crate) fn rise(x: [u32; 26]) -> u64
     requires { ⌜ screen x ≡ 0 ⌝ }
     ensures { λ r. ⌜ r ≡ riseOf x ⌝ }
 {

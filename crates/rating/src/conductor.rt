@@ -15,7 +15,7 @@ pub struct Heated {
     pub r: u64,
 }
 
-pub fn conductor(x: [u32; 26], rc: u64, zs: u64, zp: u64) -> Heated
+pub(crate) fn conductor(x: [u32; 26], rc: u64, zs: u64, zp: u64) -> Heated
     requires { ⌜ (screen x ≡ 0) × (rc ≡ rcOf x) × (zs ≡ zsOf x) × (zp ≡ zpOf x) × (zs ≤ 7840000000000) × (zp ≤ 7840000000000) ⌝ }
     ensures { λ h. ⌜ (h .ys ≡ ysOf x) × (h .yp ≡ ypOf x) × (h .r ≡ rOf x) ⌝ }
 {

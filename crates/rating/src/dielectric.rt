@@ -8,7 +8,7 @@ use stages::dielectric::dielectric_loss;
 use stages::dielectric::dielectric_rise;
 use stages::logarithm::log_low;
 
-pub fn dielectric_loss_of(x: [u32; 26], b: u64) -> u64
+pub(crate) fn dielectric_loss_of(x: [u32; 26], b: u64) -> u64
     requires { ⌜ (screen x ≡ 0) × (b ≡ bOf x) ⌝ }
     ensures { λ r. ⌜ r ≡ wdOf x ⌝ }
 {
@@ -21,7 +21,7 @@ pub fn dielectric_loss_of(x: [u32; 26], b: u64) -> u64
     )
 }
 
-pub fn dielectric_rise_of(x: [u32; 26], wd: u64) -> u64
+pub(crate) fn dielectric_rise_of(x: [u32; 26], wd: u64) -> u64
     requires { ⌜ (screen x ≡ 0) × (wd ≡ wdOf x) ⌝ }
     ensures { λ r. ⌜ r ≡ ddOf x ⌝ }
 {

@@ -88,7 +88,7 @@ fn three_core(x: [u32; 26], b: u64, rs: u64, ra: u64) -> Losses
     }
 }
 
-pub fn losses_of(x: [u32; 26], b: u64, rs: u64, ra: u64) -> Losses
+pub(crate) fn losses_of(x: [u32; 26], b: u64, rs: u64, ra: u64) -> Losses
     requires { ⌜ (screen x ≡ 0) × (b ≡ bOf x) × (rs ≡ rsOf x) × (ra ≡ raOf x) ⌝ ∗ ⌜ (eddying x ≡ true → 5 * b ≤ rs) ⌝ }
     ensures { λ l. ⌜ (l .x ≡ xOf x) × (l .s ≡ sOf x) × (l .w ≡ wOf x) ⌝ }
 {

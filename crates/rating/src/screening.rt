@@ -37,13 +37,13 @@ fn warmer(conductor: u32, ambient: u32) -> bool
     500 <= signed(conductor) - signed(ambient)
 }
 
-pub fn armoured(x: [u32; 26]) -> bool
+pub(crate) fn armoured(x: [u32; 26]) -> bool
     ensures { λ r. ⌜ r ≡ Screening.armoured x ⌝ }
 {
     x[0] == 5
 }
 
-pub fn eddying(x: [u32; 26]) -> bool
+pub(crate) fn eddying(x: [u32; 26]) -> bool
     ensures { λ r. ⌜ r ≡ Screening.eddying x ⌝ }
 {
     (x[0] == 3) | (x[0] == 4)
@@ -139,7 +139,7 @@ fn metal_held(x: [u32; 26]) -> bool
     ((x[0] <= 2) | (x[14] == 1)) & (!armoured(x) | (x[17] == 6))
 }
 
-pub fn screen(x: [u32; 26]) -> u32
+pub(crate) fn screen(x: [u32; 26]) -> u32
     ensures { λ r. ⌜ r ≡ Screening.screen x ⌝ }
 {
     if !arrangement_held(x) {

@@ -32,12 +32,9 @@ use Rattle.formulas.specs.Skin.{
 }
 use Rattle.formulas.specs.Laws.Ranges.{In}
 use Rattle.formulas.specs.Laws.CloseReactance.{pi-within}
+use Rattle.formulas.specs.Laws.LogRange.{tera>0}
 
 -- Values over T.
-
-pub tera>0 : 0 < tera
-unfolding tera
-tera>0 = lit< tt
 
 -- n/T is x or above, by at most r parts in 10^12 of it and c units of 10^-12
 abbrev pub Close : ℕ → ℕ → Fraction → ℕ → Type 0

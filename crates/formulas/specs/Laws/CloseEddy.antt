@@ -37,7 +37,7 @@ use Rattle.formulas.specs.Laws.Ranges.{
   eddyInner-most,
 }
 use Rattle.formulas.specs.Laws.CloseReactance.{reactance-close}
-use Rattle.formulas.specs.Laws.CloseSpacing.{tera>0}
+use Rattle.formulas.specs.Laws.LogRange.{tera>0}
 use Rattle.formulas.specs.Laws.CloseSheath.{zero-and, ratio-close, square-close, saturate-close}
 
 -- m, m2 and e'.

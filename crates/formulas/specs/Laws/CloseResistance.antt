@@ -42,7 +42,8 @@ use Rattle.formulas.specs.Laws.Ranges.{
   proximityFactor-most,
   acResistance-range,
 }
-use Rattle.formulas.specs.Laws.CloseConductor.{tera>0, Close, rewrite-above, round-up, at-most, saturate-times, skinFactor-close}
+use Rattle.formulas.specs.Laws.CloseConductor.{Close, rewrite-above, round-up, at-most, saturate-times, skinFactor-close}
+use Rattle.formulas.specs.Laws.LogRange.{tera>0}
 
 -- Sums of values over T, and products of values that are at most 1.
 

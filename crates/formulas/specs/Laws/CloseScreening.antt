@@ -39,7 +39,8 @@ use Rattle.formulas.specs.Logarithm.{logLow, logHigh, IsLog}
 use Rattle.formulas.specs.Spacing.{spacingLogLow, sheathReactanceLow, spacingLog*, sheathReactance*}
 use Rattle.formulas.specs.Laws.LogEndsGap.{log-gap}
 use Rattle.formulas.specs.Laws.Ranges.{In}
-use Rattle.formulas.specs.Laws.CloseSpacing.{tera>0, octaves-least, zero-and-zero}
+use Rattle.formulas.specs.Laws.CloseSpacing.{octaves-least, zero-and-zero}
+use Rattle.formulas.specs.Laws.LogRange.{tera>0}
 
 -- what lies between two ends is close to the lower one when the ends are
 between-above :

@@ -30,7 +30,7 @@ use Rattle.formulas.specs.Sheath.{
   slLoss*,
 }
 use Rattle.formulas.specs.Laws.Ranges.{In}
-use Rattle.formulas.specs.Laws.CloseSpacing.{tera>0}
+use Rattle.formulas.specs.Laws.LogRange.{tera>0}
 
 -- The steps that both kinds of loss share: a ratio over T, its square, and u/(1 + u).
 

@@ -16,6 +16,7 @@ use Rattle.formulas.specs.Laws.Octaves.{Largest, octaves-largest}
 use Rattle.formulas.specs.Laws.LogEndsGap.{log-gap}
 use Rattle.formulas.specs.Laws.Ranges.{In, reactance-range}
 use Rattle.formulas.specs.Laws.CloseReactance.{reactance-close}
+use Rattle.formulas.specs.Laws.LogRange.{tera>0}
 
 -- what lies between two ends is close to the upper one when the ends are
 between-close :
@@ -34,10 +35,6 @@ between-close r low high den den>0 near p =
       below = p .at-most;
       close = ≤F-trans ends (+F-mono (p .at-least) (≤F-refl _ (mul-pos (mul-pos (lit< tt) den>0) (lit< tt))));
     }
-
-pub tera>0 : 0 < tera
-unfolding tera
-tera>0 = lit< tt
 
 -- 2s/d is at least 2, so its logarithm has an octave
 pub octaves-least : (a b : ℕ) → 0 < b → 2 * b ≤ a → 1 ≤ octaves a b

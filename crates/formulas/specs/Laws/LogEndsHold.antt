@@ -12,10 +12,7 @@ use Rattle.formulas.specs.Constants.{tera}
 use Rattle.formulas.specs.Logarithm.{octaves, doubled, series, firstPower, termCount, thirteenTerms, zeta, artanhTerm, artanhSum, artanhRest}
 use Rattle.formulas.specs.Laws.Octaves.{Largest, octaves-largest}
 use Rattle.formulas.specs.Laws.LogEndsSum.{termsFrom, odd-power, term-pos, sum-split, sum-terms, rest-covers, rest-pos, sum-mono, sum-rest}
-
-tera>0 : 0 < tera
-unfolding tera
-tera>0 = lit< tt
+use Rattle.formulas.specs.Laws.LogRange.{tera>0}
 
 -- The product of two powers over T, rounded either way.
 

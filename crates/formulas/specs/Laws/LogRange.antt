@@ -11,6 +11,10 @@ use Rattle.formulas.specs.Constants.{tera, ln2Low, ln2High}
 use Rattle.formulas.specs.Logarithm.{octaves, doubled, series, firstPower, termCount, thirteenTerms, logLow, logHigh}
 use Rattle.formulas.specs.Laws.Octaves.{Largest, octaves-largest}
 
+pub tera>0 : 0 < tera
+unfolding tera
+tera>0 = lit< tt
+
 -- a rounding that gives at most k for a quotient that is at most k, as both do
 abbrev pub Bounded : (ℕ → ℕ → ℕ) → Type 0
 Bounded round = (a k b : ℕ) → 0 < b → a ≤ k * b → round a b ≤ k

@@ -5,7 +5,7 @@ use Prim.Native.Nat.{ℕ, _+_, _*_, _^_, _≤_, _<_}
 use native.Mathlib.Nat.{mul-pos, mul-le-mul, mul-le-mul-right, le-refl, le-trans, le-add-right}
 use native.Mathlib.Omega.{arith}
 use lib.Dec.{eqb, lit<, lit≤}
-use Rattle.exact.specs.Rounding.{down-most}
+use Rattle.exact.specs.Rounding.{up, down, down-most}
 use Rattle.exact.specs.Fraction.{
   Fraction,
   _over_,
@@ -31,7 +31,6 @@ use Rattle.exact.specs.Error.{
   within-same,
   within-round-down,
   within-relative-product,
-  within-down,
 }
 use Rattle.formulas.specs.Constants.{tera, piLow, piHigh, ln2Low, ln2High, ln2ThirdLow, Between, IsPi, IsLn2}
 use Rattle.formulas.specs.Reactance.{reactanceLow, reactance*}
@@ -130,9 +129,19 @@ reactanceLow-least f≥ = down-most _ _ (lit< tt) (omega arith)
 pub sheathReactanceLow-least :
     (arrangement : ℕ) {f s d : ℕ} → 1000 ≤ f → 0 < d → d ≤ s →
     80000000000 ≤ sheathReactanceLow (reactanceLow f) (spacingLogLow arrangement s d)
-unfolding sheathReactanceLow tera
+unfolding sheathReactanceLow tera up down
 sheathReactanceLow-least arrangement f≥ d>0 d≤s =
-    down-most _ _ (lit< tt) (omega (arith, mul-le-mul (reactanceLow-least f≥) (spacingLogLow-least arrangement d>0 d≤s)))
+    omega (arith, mul-le-mul (reactanceLow-least f≥) (spacingLogLow-least arrangement d>0 d≤s))
+
+-- X- is not above B- L-/T, and less than 1 below it. Proved from the definition, opened, and not from a law of one direction of rounding:
+-- a definition that rounds the other way is refused here, at a product for which the bound fails.
+sheathReactanceLow-rounds : (b l : ℕ) → Within 0 (whole 1) (whole (sheathReactanceLow b l)) (b * l over tera)
+unfolding sheathReactanceLow tera up down parts _+F_ _*F_
+sheathReactanceLow-rounds b l =
+    record {
+      below = record { left = lit< tt; right = lit< tt; across = omega arith };
+      close = record { left = lit< tt; right = lit< tt; across = omega arith };
+    }
 
 one-and : whole 1 +F whole 0 ≤F whole 1
 unfolding _+F_
@@ -143,9 +152,9 @@ pub sheathReactanceLow-close :
     d ≤ s → 2 * s < 32768 * d →
     Within 200 (whole 1) (whole (sheathReactanceLow (reactanceLow f) (spacingLogLow arrangement s d)))
     (sheathReactance* (reactance* π f) (spacingLog* arrangement log ln2))
-unfolding sheathReactanceLow sheathReactance* _*F_
+unfolding sheathReactance* _*F_
 sheathReactanceLow-close arrangement {f} {s} {d} pi two range p d>0 d≤s <d =
     let exact-part = within-relative-product (reactanceLow-close pi range) (spacingLogLow-close arrangement two p d>0 d≤s <d) in
     within-weaken (lit≤ tt) one-and
-    (within-trans (within-down (reactanceLow f * spacingLogLow arrangement s d) tera>0)
+    (within-trans (sheathReactanceLow-rounds (reactanceLow f) (spacingLogLow arrangement s d))
     (within-same (record { left = exact-part .below .left; right = tera>0; across = omega arith }) (≃F-refl _ (exact-part .below .right)) exact-part))

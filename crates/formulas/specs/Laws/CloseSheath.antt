@@ -1,14 +1,16 @@
 -- Stage 7 against its exact values: from an X within 200 parts in 10^12, S of the arrangements 1, 2 and 5 is within 9800 parts and
 -- 613 units of 10^-16 Ω/m. v is at least 0.0002, so its rounding is a relative error; the later ones are units. Assumes nothing.
 use Prim.Native.Nat.{ℕ, _+_, _*_, _≤_, _<_}
-use native.Mathlib.Nat.{mul-pos, le-refl}
+use native.Mathlib.Nat.{mul-pos, mul-le-mul-right, le-refl}
 use native.Mathlib.Omega.{arith}
 use lib.Dec.{lit<, lit≤}
-use Rattle.exact.specs.Rounding.{up, up-least-below}
+use Rattle.exact.specs.Rounding.{up, down, up-least-below}
 use Rattle.exact.specs.Fraction.{Fraction, _over_, whole, _+F_, _*F_, reciprocal, _/F_, square, _≤F_, ≤F-refl}
 use Rattle.exact.specs.Error.{
+  parts,
   Within,
   within-weaken,
+  within-trans,
   within-same,
   within-scale,
   within-times,
@@ -89,11 +91,35 @@ unfolding bondRatio bondRatio*
 bondRatio-close x≥ rs-range p =
     ratio-close 4700 (omega (arith, rs-range .least)) (omega (arith, bondRatio-least x≥ rs-range)) p
 
+-- v2 is not below v²/T, and less than 1 above it: proved from the definition like `sheathReactanceLow-rounds`
+bondRatioSquared-above : (v : ℕ) → v * v ≤ bondRatioSquared v * tera
+unfolding bondRatioSquared tera up down
+bondRatioSquared-above v = omega arith
+
+bondRatioSquared-next : (v : ℕ) → bondRatioSquared v * tera ≤ v * v + tera
+unfolding bondRatioSquared tera up down
+bondRatioSquared-next v = omega arith
+
+bondRatioSquared-rounds : (v : ℕ) → Within 0 (1 over tera) (square (v over tera)) (bondRatioSquared v over tera)
+unfolding parts _+F_ _*F_
+bondRatioSquared-rounds v =
+    let square>0 = mul-pos tera>0 tera>0 in
+    record {
+      below = record { left = square>0; right = tera>0; across = omega (arith, mul-le-mul-right tera (bondRatioSquared-above v)) };
+      close =
+          record {
+            left = tera>0;
+            right = mul-pos square>0 (mul-pos (mul-pos (lit< tt) tera>0) tera>0);
+            across = omega (arith, mul-le-mul-right (tera * tera * tera) (bondRatioSquared-next v));
+          };
+    }
+
 pub bondRatioSquared-close :
     {x rs : ℕ} {x* : Fraction} → 87000000000 ≤ x → In 7300000000 407000000000000 rs → Within 200 (whole 0) x* (whole x) →
     Within 9800 (1 over tera) (square (bondRatio* x* rs)) (bondRatioSquared (bondRatio x rs) over tera)
-unfolding bondRatioSquared
-bondRatioSquared-close x≥ rs-range p = square-close (bondRatio-close x≥ rs-range p)
+bondRatioSquared-close {x} {rs} x≥ rs-range p =
+    let v-close = bondRatio-close x≥ rs-range p in
+    within-weaken (lit≤ tt) (zero-and tera>0) (within-trans (within-relative-product v-close v-close) (bondRatioSquared-rounds (bondRatio x rs)))
 
 -- 1/T of the largest Rs, and one rounding
 unit-of-most : (1 over tera) *F whole 407000000000000 +F whole 1 ≤F whole 408

@@ -123,8 +123,8 @@ unfolding sheathReactance tera
 sheathReactance-most b≤ l≤ = up-least _ _ (lit< tt) (omega (arith, mul-le-mul b≤ l≤))
 
 pub sheathReactanceLow-most : {b l : ℕ} → b ≤ 816814089936 → l ≤ 18601776254712 → sheathReactanceLow b l ≤ 15200000000000
-unfolding sheathReactanceLow tera
-sheathReactanceLow-most b≤ l≤ = down-most-above _ _ (lit< tt) (omega (arith, mul-le-mul b≤ l≤))
+unfolding sheathReactanceLow tera up down
+sheathReactanceLow-most b≤ l≤ = omega (arith, mul-le-mul b≤ l≤)
 
 -- The sheath.
 
@@ -133,8 +133,8 @@ unfolding bondRatio tera
 bondRatio-most x≤ rs≥ = up-least _ _ (omega arith) (omega arith)
 
 pub bondRatioSquared-most : {v : ℕ} → v ≤ 2083000000000000 → bondRatioSquared v ≤ 4338889000000000000
-unfolding bondRatioSquared tera
-bondRatioSquared-most v≤ = up-least _ _ (lit< tt) (omega (arith, mul-le-mul v≤ v≤))
+unfolding bondRatioSquared tera up down
+bondRatioSquared-most v≤ = omega (arith, mul-le-mul v≤ v≤)
 
 pub circulatingLoss-most : (x rs : ℕ) → circulatingLoss x rs ≤ rs
 unfolding circulatingLoss tera

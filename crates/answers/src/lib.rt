@@ -7,7 +7,7 @@ ghost use lib.ListN.{length};
 ghost use Rattle.answers.specs.Answers.{textOf, unreadableText, printed};
 ghost use Rattle.rating.specs.Rate.{answerOf};
 ghost use Rattle.text.specs.RoundTrip.{spaced};
-ghost use Rattle.text.specs.Splice.{splice};
+ghost use Rattle.splice.specs.Splice.{splice};
 use rating::rate::Rated;
 use rating::rate::rate;
 use text::decimal::put_byte;

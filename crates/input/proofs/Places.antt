@@ -8,7 +8,7 @@ use lib.ListN.{length, take, drop, length-append}
 use lib.Seq.{length-take-le}
 use Rattle.text.specs.Gather.{isInLine}
 use Rattle.text.specs.Runs.{run-within}
-use Rattle.text.specs.Splice.{splice}
+use Rattle.splice.specs.Splice.{splice}
 use Rattle.text.specs.Words.{run}
 
 pub stop-within :

@@ -12,7 +12,7 @@ use lib.ListN.{length, take, drop, length-take, length-append}
 use lib.Seq.{take-all, take-at, take-nil, length-take-le}
 use Rattle.text.specs.Gather.{piece, kept}
 use Rattle.text.specs.Line.{unreadable, readLineOf}
-use Rattle.text.specs.Splice.{splice}
+use Rattle.splice.specs.Splice.{splice}
 
 -- ---- 1024 bytes decide what a line says
 

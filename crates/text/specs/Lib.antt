@@ -10,5 +10,4 @@ pub mod Number
 pub mod NumberLaws
 pub mod RoundTrip
 pub mod Runs
-pub mod Splice
 pub mod Words

@@ -4,7 +4,7 @@ ghost use mathlib.Core.Path.{_≡_};
 ghost use Prim.Native.Nat.{_+_, _<_, _≤_};
 ghost use lib.ListN.{length};
 ghost use Rattle.text.specs.Decimal.{decimal};
-ghost use Rattle.text.specs.Splice.{splice};
+ghost use Rattle.splice.specs.Splice.{splice};
 
 // How many digits x has.
 fn digit_count(x: u64) -> usize

@@ -3,7 +3,7 @@ ghost use mathlib.Core.Path.{_≡_};
 ghost use Prim.Native.Nat.{_+_, _-_, min};
 ghost use lib.ListN.{drop, length};
 ghost use Rattle.text.specs.Gather.{isInLine, kept};
-ghost use Rattle.text.specs.Splice.{splice};
+ghost use Rattle.splice.specs.Splice.{splice};
 ghost use Rattle.text.specs.Words.{run};
 
 // The place of the first line feed from `from` on, or the end.

@@ -9,9 +9,9 @@ use lib.Dec.{lit<}
 use lib.ListN.{length, length-append}
 use Rattle.text.specs.Decimal.{decimal}
 use Rattle.text.specs.DecimalLaws.{padded, decimal-small, decimal-large}
-use Rattle.text.specs.Splice.{splice}
+use Rattle.splice.specs.Splice.{splice}
 use Rattle.worksheet.specs.Fixed.{fixed}
-use Rattle.worksheet.proofs.Splices.{splice-after, splice-again}
+use Rattle.splice.specs.Laws.{splice-after, splice-again}
 
 -- a one in front keeps the zeros after it
 pub one-ahead : (d r : ℕ) → r < 10 ^ d → decimal (10 ^ d + r) ≡ 49 ∷ padded d r

@@ -5,7 +5,7 @@ ghost use lib.IntN.{pos};
 ghost use lib.ListN.{length};
 ghost use mir.Syntax.{w32};
 ghost use mir.Val.{toZ};
-ghost use Rattle.text.specs.Splice.{splice};
+ghost use Rattle.splice.specs.Splice.{splice};
 ghost use Rattle.worksheet.specs.Fixed.{fixed, number, signed};
 use text::decimal::put_byte;
 use text::decimal::put_decimal;

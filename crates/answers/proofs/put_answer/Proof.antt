@@ -5,7 +5,8 @@ use mathlib.Core.Path.{_≡_, sym, ap, _∙_}
 use Prim.Native.Nat.{ℕ, _+_, _^_, _≤_, _<_}
 use native.Mathlib.Omega.{arith}
 use borrow.Author.Needs.{needs}
-use Rattle.answers.proofs.Put.{put-as, put-then, spaced-append}
+use Rattle.splice.specs.Put.{put-as, put-then}
+use Rattle.answers.proofs.Spaced.{spaced-append}
 use Rattle.answers.specs.Answers.{textOf}
 use Rattle.text.specs.Decimal.{decimal}
 use Rattle.text.specs.DecimalLaws.{count-64}

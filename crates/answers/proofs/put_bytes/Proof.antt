@@ -8,7 +8,7 @@ use native.Mathlib.Omega.{arith}
 use borrow.Author.Needs.{needs}
 use lib.ListN.{length, take}
 use lib.Seq.{take-all, take-length}
-use Rattle.answers.proofs.Put.{put-as}
+use Rattle.splice.specs.Put.{put-as}
 use Rattle.text.specs.Gather.{piece, kept}
 use Rattle.answers.proofs.put_bytes.Statement.{statement}
 use Rattle.answers.proofs.put_bytes.Tie as tie

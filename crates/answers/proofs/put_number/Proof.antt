@@ -5,7 +5,7 @@ use mathlib.Core.Path.{_≡_, sym, ap}
 use Prim.Native.Nat.{ℕ}
 use native.Mathlib.Omega.{arith}
 use borrow.Author.Needs.{needs}
-use Rattle.answers.proofs.Put.{put-as, put-then}
+use Rattle.splice.specs.Put.{put-as, put-then}
 use Rattle.text.specs.Decimal.{decimal}
 use Rattle.text.specs.DecimalLaws.{count-64}
 use Rattle.text.specs.RoundTrip.{spaced}

@@ -8,7 +8,8 @@ use native.Mathlib.Numerals.{add-one}
 use native.Mathlib.Omega.{arith}
 use lib.ListN.{length, getD, take}
 use lib.Seq.{take-suc, take-all}
-use Rattle.answers.proofs.Put.{Put, put-as, put-nothing, put-then, spaced-append}
+use Rattle.splice.specs.Put.{Put, put-as, put-nothing, put-then}
+use Rattle.answers.proofs.Spaced.{spaced-append}
 use Rattle.text.specs.RoundTrip.{spaced}
 use Rattle.answers.proofs.put_sheet.Statement.{statement}
 use Rattle.answers.proofs.put_sheet.Tie as tie

@@ -2,7 +2,7 @@
 -- Assumes nothing.
 use native.Mathlib.Omega.{arith}
 use borrow.Author.Needs.{needs}
-use Rattle.answers.proofs.Put.{put-then}
+use Rattle.splice.specs.Put.{put-then}
 use Rattle.answers.specs.Answers.{unreadableText}
 use Rattle.text.specs.Decimal.{decimal}
 use Rattle.text.specs.DecimalLaws.{count-64}

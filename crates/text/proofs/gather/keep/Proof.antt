@@ -9,7 +9,7 @@ use native.Mathlib.Omega.{arith}
 use lib.ListN.{length, take, drop, set, getD, length-take, length-drop, length-set}
 use lib.Seq.{paste, paste-zero, paste-suc, getD-drop}
 use Rattle.text.specs.Gather.{piece, kept}
-use Rattle.text.specs.Splice.{splice}
+use Rattle.splice.specs.Splice.{splice}
 use Rattle.text.proofs.gather.keep.Statement.{statement}
 use Rattle.text.proofs.gather.keep.Tie as tie
 

@@ -10,7 +10,7 @@ use lib.Dec.{lit<}
 use lib.ListN.{length}
 use Rattle.text.specs.Decimal.{decimal}
 use Rattle.text.specs.DecimalLaws.{count-64}
-use Rattle.text.specs.Splice.{splice}
+use Rattle.splice.specs.Splice.{splice}
 use Rattle.worksheet.proofs.Points.{fixed-none, ends, written}
 use Rattle.worksheet.proofs.fixed.put_fixed.Statement.{statement}
 use Rattle.worksheet.proofs.fixed.put_fixed.Tie as tie

@@ -5,9 +5,9 @@ use mathlib.Core.Path.{ap, _∙_}
 use Prim.Native.Nat.{ℕ}
 use native.Mathlib.Omega.{arith}
 use borrow.Author.Needs.{needs}
-use Rattle.text.specs.Splice.{splice}
+use Rattle.splice.specs.Splice.{splice}
 use Rattle.worksheet.specs.Fixed.{fixed, signed}
-use Rattle.worksheet.proofs.Splices.{splice-after}
+use Rattle.splice.specs.Laws.{splice-after}
 use Rattle.worksheet.proofs.fixed.put_signed.Statement.{statement}
 use Rattle.worksheet.proofs.fixed.put_signed.Tie as tie
 

@@ -1,0 +1,46 @@
+-- The laws that have premises, on a list of six: each premise is met. Assumes nothing.
+use mathlib.Core.List.{List, [], _∷_, _++_}
+use mathlib.Core.Path.{_≡_, refl}
+use Prim.Native.Nat.{ℕ}
+use lib.Dec.{lit<, lit≤}
+use lib.ListN.{length, take, drop, set}
+use Rattle.splice.specs.Splice.{splice}
+use Rattle.splice.specs.Laws.{splice-length, splice-before, splice-past, splice-one, splice-after, splice-again}
+use Rattle.splice.specs.Put.{Put, put-nothing, put-as, put-then}
+
+abbrev six : List ℕ
+six = 1 ∷ 2 ∷ 3 ∷ 4 ∷ 5 ∷ 6 ∷ []
+
+abbrev part : List ℕ
+part = 7 ∷ 8 ∷ []
+
+replaced : splice six 1 part ≡ 1 ∷ 7 ∷ 8 ∷ 4 ∷ 5 ∷ 6 ∷ []
+unfolding splice
+replaced = refl
+
+as-long : length (splice six 1 part) ≡ 6
+as-long = splice-length six 1 part (lit≤ tt)
+
+before : take 1 (splice six 1 part) ≡ 1 ∷ []
+before = splice-before six 1 part (lit≤ tt)
+
+after : drop 4 (splice six 1 part) ≡ 5 ∷ 6 ∷ []
+after = splice-past six 1 part 1 (lit≤ tt)
+
+one : splice six 5 (9 ∷ []) ≡ 1 ∷ 2 ∷ 3 ∷ 4 ∷ 5 ∷ 9 ∷ []
+one = rw (← splice-one six 5 9 (lit< tt)) refl
+
+two-parts : splice (splice six 1 part) 3 part ≡ splice six 1 (part ++ part)
+two-parts = splice-after six 1 part part (lit≤ tt)
+
+anew : splice (splice six 1 part) 1 (9 ∷ []) ≡ splice six 1 (9 ∷ 8 ∷ [])
+anew = splice-again six 1 7 9 (8 ∷ []) (lit≤ tt)
+
+written : Put six 1 part (splice six 1 part) 3
+written = (refl, refl)
+
+both-written : Put six 1 (part ++ part) (splice (splice six 1 part) 3 part) 5
+both-written = put-then six 1 part part (lit≤ tt) written (refl, refl)
+
+same-written : Put six 2 [] six 2
+same-written = put-as six 2 refl (put-nothing six 2)

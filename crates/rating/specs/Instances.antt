@@ -26,12 +26,12 @@ use Rattle.rating.specs.Rate.{rated, loaded, judged, rateOf, rateOf-is}
 use Rattle.rating.specs.Exact.{Chosen, exactRise, permittedOf}
 use Rattle.rating.specs.Margin.{safe, close, nearer}
 
-abbrev cable : List ℕ
+abbrev pub cable : List ℕ
 cable =
     5 ∷ 1 ∷ 5000 ∷ 8500 ∷ 1500 ∷ 124000 ∷ 1450 ∷ 4200 ∷ 1750 ∷ 3600 ∷ 19000 ∷ 350 ∷ 1000 ∷ 4000 ∷ 1 ∷ 1000000 ∷ 6000 ∷ 6 ∷ 250000 ∷ 5500
     ∷ 2500 ∷ 11000 ∷ 350000 ∷ 40000 ∷ 60000 ∷ 450000 ∷ []
 
-chosen : Chosen cable
+pub chosen : Chosen cable
 unfolding piLow piHigh logLow logHigh thirteenTerms series firstPower doubled octaves doublings ln2Low ln2High tera up down
 chosen =
     record {
@@ -62,7 +62,7 @@ chosen =
     }
 
 -- computed from the definitions alone
-answer : (rateOf cable .number ≡ 0) × (rateOf cable .rating ≡ 457106)
+pub answer : (rateOf cable .number ≡ 0) × (rateOf cable .rating ≡ 457106)
 unfolding judged loaded rated screen arrangementHeld conductorHeld limitsHeld conductorLimits sheathLimits thermalLimits armoured
     eddying armourLimits strayHeld geometryHeld heatHeld metalHeld skinRefused eddyRefused dielectricRefused currentRefused coresOf rcOf rsOf
     raOf bOf zsOf zpOf ysOf ypOf rOf xOf xLowOf sOf wOf wdOf ddOf riseOf eOf currentOf ks kp coefficient conductorMetal entry ksTable kpTable

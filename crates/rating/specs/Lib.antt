@@ -8,6 +8,7 @@ pub mod Sound
 pub mod Ranges
 pub mod Rise
 pub mod Passing
+pub mod Bounds
 pub mod Exact
 pub mod Close
 pub mod Margin

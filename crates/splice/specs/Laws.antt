@@ -1,13 +1,13 @@
 -- Laws of `splice`: its length, what stands before and after the part, a second part after the first, and a part put anew.
 -- Assumes nothing.
 use mathlib.Core.List.{List, [], _∷_, _++_, append-assoc, append-nil}
-use mathlib.Core.Path.{_≡_, sym, ap, _∙_}
-use Prim.Native.Nat.{ℕ, _+_, _≤_, _<_}
+use mathlib.Core.Path.{_≡_, sym, ap, ap₂, _∙_}
+use Prim.Native.Nat.{ℕ, _+_, _-_, _≤_, _<_}
 use native.Mathlib.Nat.{add-zero}
 use native.Mathlib.Numerals.{add-one}
 use native.Mathlib.Omega.{arith}
 use lib.ListN.{length, take, drop, set, length-append, length-drop, take-append-drop}
-use lib.Seq.{length-take-le, take-at, drop-append-add, drop-drop, set-split, append-snoc}
+use lib.Seq.{sets, sets-eq, length-take-le, take-at, drop-append-add, drop-drop, set-split, append-snoc}
 use Rattle.splice.specs.Splice.{splice}
 
 -- what stands past the first n + k elements, the first n of which are p
@@ -72,3 +72,37 @@ splice-again l at a b v h =
     ∙ ap (λ (t : List ℕ). p ++ (b ∷ []) ++ t) (past p ((a ∷ v) ++ d) at 1 size)
     ∙ append-assoc p (b ∷ []) (v ++ d)
     ∙ sym (append-assoc p (b ∷ v) d)
+
+-- stores one after another
+pub splice-sets : (l : List ℕ) (at : ℕ) (u : List ℕ) → at + length u ≤ length l → sets l at u ≡ splice l at u
+unfolding splice
+splice-sets l at u h = sets-eq u l at h
+
+-- a part put over another one that is no longer
+splice-twice :
+    (l : List ℕ) (at : ℕ) (v w : List ℕ) → at ≤ length l → length v ≤ length w → splice (splice l at v) at w ≡ splice l at w
+unfolding splice
+splice-twice l at v w h longer =
+    let reached : at + length v + (length w - length v) ≡ at + length w = omega arith in
+    let after : drop (at + length w) (splice l at v) ≡ drop (at + length w) l =
+    ap (λ (k : ℕ). drop k (splice l at v)) (sym reached) ∙ splice-past l at v (length w - length v) h ∙ ap (λ (k : ℕ). drop k l) reached
+    in
+    parts (splice l at v) l at w (splice-before l at v h) after
+  where
+    parts :
+        (m l : List ℕ) (at : ℕ) (w : List ℕ) → take at m ≡ take at l → drop (at + length w) m ≡ drop (at + length w) l → splice m at w ≡ splice l at w
+    parts m l at w before after = ap₂ (λ (s t : List ℕ). s ++ w ++ t) before after
+
+-- a part put over the end of an earlier one, and no shorter than that end
+pub splice-over :
+    (l : List ℕ) (at : ℕ) (u v w : List ℕ) → at ≤ length l → length v ≤ length w →
+    splice (splice l at (u ++ v)) (at + length u) w ≡ splice l at (u ++ w)
+unfolding splice
+splice-over l at u v w h longer =
+    let m = splice l at u in
+    let reaches : at + length u ≤ length m =
+    omega (arith, length-append (take at l ++ u) (drop (at + length u) l), front-length l at u h)
+    in
+    ap (λ (t : List ℕ). splice t (at + length u) w) (sym (splice-after l at u v h))
+    ∙ splice-twice m (at + length u) v w reaches longer
+    ∙ splice-after l at u w h

@@ -1,0 +1,78 @@
+-- `book::append::put_record` meets its contract: the record, then the trailer. Assumes nothing.
+use mathlib.Core.List.{List, [], _∷_, _++_}
+use mathlib.Core.Path.{_≡_, refl, sym, ap, ap₂, _∙_}
+use Prim.Native.Nat.{ℕ, _+_, _*_, _≤_}
+use native.Mathlib.Omega.{arith}
+use lib.ListN.{length}
+use Rattle.splice.specs.Splice.{splice}
+use Rattle.splice.specs.Laws.{splice-after}
+use Rattle.rating.specs.Rate.{Answer, answerOf, rateOf}
+use Rattle.rating.specs.declared.rate.Rated.{Rated}
+use Rattle.book_laws.specs.Format.{wordsBytes, fieldsOf, recordBytes, trailerBytes}
+use Rattle.book_laws.specs.FormatLaws.{wordsBytes-length}
+use borrow.Author.Needs.{needs}
+use Rattle.book.proofs.append.put_record.Statement.{statement}
+use Rattle.book.proofs.append.put_record.Tie as tie
+
+fields-are :
+    (x : List ℕ) {r : Rated} {f : List ℕ} → answerOf r ≡ rateOf x → f ≡ x ++ (r .answer ∷ r .rating ∷ []) → wordsBytes f ≡ recordBytes x
+unfolding recordBytes fieldsOf
+fields-are x {r} {f} rated made =
+    let number = ap (λ (a : Answer). a .number) rated in
+    let rating = ap (λ (a : Answer). a .rating) rated in
+    ap wordsBytes (made ∙ ap₂ (λ (n i : ℕ). x ++ (n ∷ i ∷ [])) number rating)
+
+record-and-trailer :
+    (l : List ℕ) (at : ℕ) (x : List ℕ) (count : ℕ) {r : Rated} {f m n : List ℕ} → at ≤ length l → length f ≡ 28 →
+    answerOf r ≡ rateOf x → f ≡ x ++ (r .answer ∷ r .rating ∷ []) → m ≡ splice l at (wordsBytes f) →
+    n ≡ splice m (at + 112) (trailerBytes count) → n ≡ splice l at (recordBytes x ++ trailerBytes count)
+record-and-trailer l at x count {r} {f} {m} {n} h size rated made put-fields put-trailer =
+    let place : at + 112 ≡ at + length (wordsBytes f) =
+    omega (arith, wordsBytes-length f)
+    in
+    put-trailer
+    ∙ ap (λ (t : List ℕ). splice t (at + 112) (trailerBytes count)) put-fields
+    ∙ ap (λ (k : ℕ). splice (splice l at (wordsBytes f)) k (trailerBytes count)) place
+    ∙ splice-after l at (wordsBytes f) (trailerBytes count) h
+    ∙ ap (λ (u : List ℕ). splice l at (u ++ trailerBytes count)) (fields-are x rated made)
+
+rate-requires : tie.Need-rate-requires
+rate-requires c κs = search needs
+
+fields-of-requires : tie.Need-fields-of-requires
+fields-of-requires c κs = search needs
+
+put-fields-requires : tie.Need-put-fields-requires
+put-fields-requires c κs = search needs
+
+add-put-trailer : tie.Need-add-put-trailer
+add-put-trailer c = search needs
+
+put-trailer-requires : tie.Need-put-trailer-requires
+put-trailer-requires c κs = search needs
+
+same-length : tie.Need-same-length
+same-length c = search needs
+
+returns : tie.Need-returns
+returns c =
+    let trailed = c .before .before in
+    let fielded = trailed .before .before .before .before in
+    let made = fielded .before in
+    let rated = made .before .before in
+    let start = rated .before .before in
+    record-and-trailer _ _ (start .args .x) _ (omega (arith, start .pre)) (made .fields-of .ensures .1) (rated .rate .ensures) (made .fields-of .ensures .0)
+    (fielded .put-fields .ensures)
+    (trailed .put-trailer .ensures)
+
+pub put-record-spec : {M : Type 1} → statement M
+put-record-spec =
+    tie.close
+    (tie.spec
+    rate-requires
+    fields-of-requires
+    put-fields-requires
+    add-put-trailer
+    put-trailer-requires
+    same-length
+    returns)

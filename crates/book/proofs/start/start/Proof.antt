@@ -1,0 +1,68 @@
+-- `book::start::start` meets its contract: 24 where the note and the trailer do not fit, else the trailer stands after the note.
+-- Assumes nothing.
+use mathlib.Core.List.{List}
+use mathlib.Core.Path.{_≡_, sym, ap, _∙_}
+use Prim.Native.Nat.{ℕ, _+_, _≤_, _<_}
+use native.Mathlib.Omega.{arith}
+use lib.ListN.{length}
+use borrow.Author.Tests.{lt-ltb, le-ltb}
+use Rattle.splice.specs.Splice.{splice}
+use Rattle.book_laws.specs.Format.{trailerBytes}
+use Rattle.book_laws.specs.Start.{Written, unwritten, startOf}
+use borrow.Author.Needs.{needs}
+use Rattle.book.proofs.start.start.Statement.{statement}
+use Rattle.book.proofs.start.start.Tie as tie
+
+refused : (b : List ℕ) (note : ℕ) → length b < note + 16 → startOf b note ≡ unwritten 24 b
+unfolding startOf
+refused b note h = simp (lt-ltb _ _ h)
+
+started :
+    (b : List ℕ) (note : ℕ) {m : List ℕ} → note + 16 ≤ length b → m ≡ splice b note (trailerBytes 0) →
+    startOf b note ≡ record { number = 0; used = note + 16; bytes = m }
+unfolding startOf
+started b note {m} h put = rw (put) (simp (le-ltb _ _ h))
+
+unwritten-requires : tie.Need-unwritten-requires
+unwritten-requires c κs = search needs
+
+returns : tie.Need-returns
+returns c = c .unwritten .ensures _ ∙ sym (refused _ _ (omega (arith, c .before .if1 .taken)))
+
+sub-if2 : tie.Need-sub-if2
+sub-if2 c = search needs
+
+unwritten-requires-2 : tie.Need-unwritten-requires-2
+unwritten-requires-2 c κs = search needs
+
+returns-2 : tie.Need-returns-2
+returns-2 c = c .unwritten2 .ensures _ ∙ sym (refused _ _ (omega (arith, c .before .if2 .taken)))
+
+put-trailer-requires : tie.Need-put-trailer-requires
+put-trailer-requires c κs = search needs
+
+add-t3 : tie.Need-add-t3
+add-t3 c = search needs
+
+same-length : tie.Need-same-length
+same-length c = search needs
+
+returns-3 : tie.Need-returns-3
+returns-3 c =
+    let put = c .before .before in
+    let fits = put .before .before in
+    sym (started _ _ (omega (arith, fits .before .if1 .left, fits .if2 .left)) (put .put-trailer .ensures))
+
+pub start-spec : {M : Type 1} → statement M
+start-spec =
+    tie.close
+    (tie.spec
+    unwritten-requires
+    returns
+    sub-if2
+    unwritten-requires-2
+    returns-2
+    put-trailer-requires
+    add-t3
+    same-length
+    returns-3)

@@ -1,0 +1,46 @@
+// Appending a case: its record stands in place of the trailer, and the new trailer after it.
+ghost use mathlib.Core.List.{_++_};
+ghost use mathlib.Core.Path.{_≡_};
+ghost use Prim.Native.Nat.{_+_, _≤_};
+ghost use lib.ListN.{length};
+ghost use Rattle.book_laws.specs.Append.{appendOf};
+ghost use Rattle.book_laws.specs.Format.{recordBytes, trailerBytes};
+ghost use Rattle.book.specs.Answers.{writtenOf};
+ghost use Rattle.splice.specs.Splice.{splice};
+use super::record::fields_of;
+use super::record::put_fields;
+use super::start::Written;
+use super::start::unwritten;
+use super::trailer::describe_book;
+use super::trailer::put_trailer;
+use rating::rate::rate;
+
+// Writes the record of a case at `at`, and the trailer of a book of `count` records after it.
+fn put_record(buffer: &mut [u8], at: usize, x: [u32; 26], count: u32)
+    requires { ⌜ (at + 128 ≤ length (now buffer)) × (count ≤ 100000) ⌝ }
+    ensures { λ _. ⌜ now (buffer .exit) ≡ splice (now (buffer .entry)) at (recordBytes x ++ trailerBytes count) ⌝ }
+{
+    let a = rate(x);
+    put_fields(buffer, at, fields_of(x, a.answer, a.rating));
+    put_trailer(buffer, at + 112, count);
+}
+
+pub fn append(buffer: &mut [u8], used: usize, x: [u32; 26]) -> Written
+    ensures { λ r. ⌜ writtenOf r (now (buffer .exit)) ≡ appendOf (now (buffer .entry)) used x ⌝ }
+{
+    let d = describe_book(buffer, used);
+    if d.number != 0 {
+        return unwritten(d.number);
+    }
+    if 100000 <= d.count {
+        return unwritten(25);
+    }
+    if buffer.len() - used < 112 {
+        return unwritten(24);
+    }
+    put_record(buffer, used - 16, x, d.count as u32 + 1);
+    Written {
+        number: 0,
+        used: used + 112,
+    }
+}

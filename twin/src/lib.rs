@@ -1,8 +1,13 @@
-// The twin: a second, independent working of the cable rating of document 01,
-// written from the document alone so that another implementation can be
-// compared with it, number for number.
+// The twin: a second, independent working of the cable rating and the book of
+// document 01, written from the document alone so that another implementation
+// can be compared with it, number for number.
 
+pub mod book;
+pub mod dice;
+pub mod drawn_books;
+pub mod drawn_cases;
 pub mod lines;
+pub mod listing;
 pub mod rating;
 pub mod stages;
 pub mod standard;

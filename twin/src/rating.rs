@@ -13,7 +13,8 @@ pub struct Rated {
     pub sheet: [u64; 13],
 }
 
-type Words = [u32; 26];
+/// The 26 fields of a case, as they are written.
+pub type Words = [u32; 26];
 
 const ARMOUR_FIELDS: std::ops::RangeInclusive<usize> = 17..=21;
 const SKIN_LIMIT: u128 = 7_840_000_000_000;
@@ -291,7 +292,7 @@ impl Cable<'_> {
 }
 
 /// Rates a case of any 26 words.
-pub fn rate(case: &[u32; 26]) -> Rated {
+pub fn rate(case: &Words) -> Rated {
     let result = match early_refusal(case) {
         Some(number) => Err(number),
         None => Cable::of(case).rate(),

@@ -1,6 +1,5 @@
 // What the program `rate` prints for a line of its input. Each function writes into `out` from `at` on, and answers the place after
 // what it wrote. A bound on that place shows that the next one has room.
-ghost use mathlib.Core.List.{[], _∷_};
 ghost use mathlib.Core.Path.{_≡_};
 ghost use Prim.Native.Nat.{_+_, _≤_};
 ghost use lib.ListN.{length};
@@ -11,32 +10,13 @@ ghost use Rattle.splice.specs.Splice.{splice};
 use rating::rate::Rated;
 use rating::rate::rate;
 use text::decimal::put_byte;
+use text::decimal::put_bytes;
 use text::decimal::put_decimal;
-use text::gather::keep;
+use text::decimal::put_number;
 use text::line::read_line;
 
 // Room for what is printed for any line.
 pub const ROOM: usize = 512;
-
-// Writes bytes.
-fn put_bytes(out: &mut [u8], at: usize, bytes: &[u8]) -> usize
-    requires { ⌜ at + length (now bytes) ≤ length (now out) ⌝ }
-    ensures { λ r. ⌜ (r ≡ at + length (now (bytes .entry)))
-        × (now (out .exit) ≡ splice (now (out .entry)) at (now (bytes .entry))) ⌝ }
-{
-    keep(out, at, bytes, 0, bytes.len())
-}
-
-// Writes a blank and a number.
-fn put_number(out: &mut [u8], at: usize, x: u64) -> usize
-    requires { ⌜ at + 21 ≤ length (now out) ⌝ }
-    ensures { λ r. ⌜ (r ≡ at + length (spaced (x ∷ [])))
-        × (now (out .exit) ≡ splice (now (out .entry)) at (spaced (x ∷ []))) ⌝ }
-    ensures { λ r. ⌜ r ≤ at + 21 ⌝ }
-{
-    let digits = put_byte(out, at, b' ');
-    put_decimal(out, digits, x)
-}
 
 // Writes each number of a sheet with a blank before it.
 fn put_sheet(out: &mut [u8], at: usize, xs: [u64; 13]) -> usize

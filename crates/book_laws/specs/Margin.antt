@@ -16,9 +16,8 @@ use Rattle.book_laws.specs.Trailer.{describe}
 use Rattle.book_laws.specs.TrailerLaws.{onBook-on}
 use Rattle.book_laws.specs.Read.{readAfter, readOf}
 use Rattle.book_laws.specs.Accept.{caseAt, answerAt, ratingAt, agrees, acceptOf}
-use Rattle.book_laws.specs.AcceptLaws.{allAgree-each}
+use Rattle.book_laws.specs.AcceptLaws.{allAgree-each, trailer-passed, accepted}
 use Rattle.book_laws.specs.RecordLaws.{fields-are}
-use Rattle.book_laws.specs.Rebuild.{trailer-passed, accepted}
 
 -- where record i of a book stands, from 0
 unfoldable pub placeOf : List ℕ → ℕ → ℕ → ℕ

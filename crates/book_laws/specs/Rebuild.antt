@@ -1,56 +1,25 @@
 -- Demand 2: an accepted book, built again from its note and its cases, has the same used length and the same bytes, and nothing is refused on
 -- the way. Assumes nothing.
-use mathlib.Core.Bool.{Bool, true, false, cond, _&&_}
+use mathlib.Core.Bool.{true, _&&_}
 use mathlib.Core.List.{List, [], _∷_, _++_, append-assoc, append-nil}
 use mathlib.Core.Path.{_≡_, refl, sym, ap, ap₂, _∙_}
 use Prim.Native.Nat.{ℕ, zero, suc, _+_, _-_, _*_, _≤_, _<_}
-use native.Mathlib.Nat.{suc-ne-zero}
 use native.Mathlib.Omega.{arith}
-use lib.Dec.{eqb, ltb}
+use lib.Dec.{eqb}
 use lib.ListN.{length, getD, take, drop}
 use lib.Seq.{drop-cons, drop-drop, take-add, drop-length}
-use borrow.Author.Tests.{eqb-true, eqb-false, eq-eqb, lt-ltb}
+use borrow.Author.Tests.{eqb-true, eq-eqb, lt-ltb}
 use Rattle.rating.specs.Fields.{width}
 use Rattle.splice.specs.Splice.{splice}
 use Rattle.book_laws.specs.Format.{wordAt, wordsAt, wordBytes, wordsBytes, recordFields, recordLength, recordBytes, recordsBytes, trailerLength, mark, trailerBytes, stands}
 use Rattle.book_laws.specs.FormatLaws.{both, below, below-at, wordsAt-length, wordsBytes-read}
-use Rattle.book_laws.specs.Trailer.{Description, describe}
-use Rattle.book_laws.specs.TrailerLaws.{passed, Described, described, onBook-on, onBook-refused}
-use Rattle.book_laws.specs.Start.{Written}
-use Rattle.book_laws.specs.Accept.{Acceptance, caseAt, agrees, allAgree, unaccepted, acceptAfter, acceptOf}
+use Rattle.book_laws.specs.Trailer.{describe}
+use Rattle.book_laws.specs.Accept.{caseAt, agrees, allAgree, acceptOf}
+use Rattle.book_laws.specs.AcceptLaws.{Accepted, accepted}
 use Rattle.book_laws.specs.Build.{allCases, build, casesAt}
 use Rattle.book_laws.specs.RecordLaws.{agreed-fields}
 use Rattle.book_laws.specs.BookLaws.{bookBytes, usedFor, built, Fits, bookBytes-length}
 use Rattle.book_laws.specs.BuildLaws.{build-fits}
-
--- What accept accepts: a trailer that is not refused, and records that all agree.
-
-pub record Accepted (b : List ℕ) (used : ℕ) : Type 0 where
-  pub described : Described b used (describe b used)
-  pub all-agree : allAgree b (describe b used .first) (describe b used .count) ≡ true
-
-pub trailer-passed : (b : List ℕ) (used k : ℕ) → acceptOf b used k .number ≡ 0 → describe b used .number ≡ 0
-unfolding acceptOf unaccepted
-trailer-passed b used k e = by-test (eqb (describe b used .number) 0) refl
-  where
-    by-test : (none : Bool) → eqb (describe b used .number) 0 ≡ none → describe b used .number ≡ 0
-    by-test true t = eqb-true _ 0 t
-    by-test false t = sym (ap (λ (a : Acceptance). a .number) (onBook-refused b used _ _ refl (eqb-false _ 0 t))) ∙ e
-
-agreed : (all : Bool) (rest : Acceptance) (k : ℕ) → cond all rest (unaccepted 23 k) .number ≡ 0 → all ≡ true
-unfolding unaccepted
-agreed true rest k e = refl
-agreed false rest k e = absurd (suc-ne-zero 22 e)
-
-pub accepted : (b : List ℕ) (used k : ℕ) → acceptOf b used k .number ≡ 0 → Accepted b used
-unfolding acceptOf acceptAfter
-accepted b used k e =
-    let none = trailer-passed b used k e in
-    let is = onBook-on b used (λ n. unaccepted n 0) (λ d. acceptAfter d b k) refl none in
-    record {
-      described = described b used none;
-      all-agree = agreed (allAgree b (describe b used .first) (describe b used .count)) _ k (sym (ap (λ (a : Acceptance). a .number) is) ∙ e);
-    }
 
 -- Bytes read as cases are cases.
 

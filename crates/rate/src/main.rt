@@ -2,13 +2,7 @@
 // `answers::print_line`; here are the buffers, the loop over the lines and the writing.
 ghost use Prim.Native.Nat.{_+_, _≤_};
 ghost use lib.ListN.{length};
-use libc::STDOUT_FILENO;
-
-fn send(out: &[u8], used: usize)
-    requires { ⌜ used ≤ length (now out) ⌝ }
-{
-    io::write_all(STDOUT_FILENO, &out[..used]);
-}
+use output::send;
 
 // One line's text in `out`, which is sent on where it might not take another.
 fn answer(out: &mut [u8], used: usize, number: u64, line: &[u8], len: usize) -> usize

@@ -3,12 +3,7 @@
 ghost use Prim.Native.Nat.{_≤_};
 ghost use lib.ListN.{length};
 use libc::STDOUT_FILENO;
-
-fn send(out: &[u8], used: usize)
-    requires { ⌜ used ≤ length (now out) ⌝ }
-{
-    io::write_all(STDOUT_FILENO, &out[..used]);
-}
+use output::send;
 
 // A heading with the case's line number, and its sheet.
 fn show_case(out: &mut [u8], number: u64, x: [u32; 26]) {

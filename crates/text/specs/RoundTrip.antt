@@ -1,7 +1,7 @@
 -- A line that writes numbers in decimal, with one blank between them, is read back as those numbers. Assumes nothing.
 use mathlib.Core.Bool.{Bool, true, _||_}
-use mathlib.Core.List.{List, [], _∷_, _++_}
-use mathlib.Core.Path.{_≡_, refl, ap, subst, _∙_}
+use mathlib.Core.List.{List, [], _∷_, _++_, append-assoc}
+use mathlib.Core.Path.{_≡_, refl, sym, ap, subst, _∙_}
 use Prim.Native.Nat.{ℕ, zero, suc, _-_, _*_, _^_, _≤_, _<_}
 use native.Mathlib.Nat.{lt-trans}
 use native.Mathlib.Omega.{arith}
@@ -25,6 +25,13 @@ spaced (x ∷ xs) = 32 ∷ (decimal x ++ spaced xs)
 unfoldable pub written : List ℕ → List ℕ
 written [] = []
 written (x ∷ xs) = decimal x ++ spaced xs
+
+pub spaced-append : (xs ys : List ℕ) → spaced (xs ++ ys) ≡ spaced xs ++ spaced ys
+unfolding spaced
+spaced-append [] ys = refl
+spaced-append (x ∷ xs) ys =
+    ap (λ (t : List ℕ). 32 ∷ (decimal x ++ t)) (spaced-append xs ys)
+    ∙ ap (λ (t : List ℕ). 32 ∷ t) (sym (append-assoc (decimal x) (spaced xs) (spaced ys)))
 
 -- every number is below 2^32
 unfoldable pub Below32 : List ℕ → Type 0

@@ -4,7 +4,9 @@ ghost use mathlib.Core.Path.{_≡_};
 ghost use Prim.Native.Nat.{_+_, _<_, _≤_};
 ghost use lib.ListN.{length};
 ghost use Rattle.text.specs.Decimal.{decimal};
+ghost use Rattle.text.specs.RoundTrip.{spaced};
 ghost use Rattle.splice.specs.Splice.{splice};
+use super::gather::keep;
 
 // How many digits x has.
 fn digit_count(x: u64) -> usize
@@ -42,4 +44,24 @@ pub fn put_byte(out: &mut [u8], at: usize, b: u8) -> usize
 {
     out[at] = b;
     at + 1
+}
+
+// Writes bytes.
+pub fn put_bytes(out: &mut [u8], at: usize, bytes: &[u8]) -> usize
+    requires { ⌜ at + length (now bytes) ≤ length (now out) ⌝ }
+    ensures { λ r. ⌜ (r ≡ at + length (now (bytes .entry)))
+        × (now (out .exit) ≡ splice (now (out .entry)) at (now (bytes .entry))) ⌝ }
+{
+    keep(out, at, bytes, 0, bytes.len())
+}
+
+// Writes a blank and a number.
+pub fn put_number(out: &mut [u8], at: usize, x: u64) -> usize
+    requires { ⌜ at + 21 ≤ length (now out) ⌝ }
+    ensures { λ r. ⌜ (r ≡ at + length (spaced (x ∷ [])))
+        × (now (out .exit) ≡ splice (now (out .entry)) at (spaced (x ∷ []))) ⌝ }
+    ensures { λ r. ⌜ r ≤ at + 21 ⌝ }
+{
+    let digits = put_byte(out, at, b' ');
+    put_decimal(out, digits, x)
 }

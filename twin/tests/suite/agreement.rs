@@ -1,8 +1,10 @@
 // The whole-number rating against the standard's formulas in floating point:
 // real-looking cases of every arrangement, then many made by dice.
 
-use crate::cases::{sound_case, with, Dice, Words, ALL};
-use twin::rating::{rate, Rated};
+use crate::cases::{with, ALL};
+use twin::dice::Dice;
+use twin::drawn_cases::{disturb, sound_case};
+use twin::rating::{rate, Rated, Words};
 use twin::standard::Cable;
 
 /// The float rating less the whole one, in mA. The whole one is cautious: it
@@ -112,15 +114,7 @@ fn any_words_get_an_answer() {
     let mut dice = Dice(26);
     for round in 0..40_000 {
         let mut case = sound_case(&mut dice);
-        for _ in 0..round % 4 {
-            let field = (dice.roll() % 26) as usize;
-            case[field] = match dice.roll() % 4 {
-                0 => u32::MAX,
-                1 => 1 << 31,
-                2 => (1 << 31) - 1,
-                _ => dice.roll() as u32,
-            };
-        }
+        disturb(&mut case, round % 4, &mut dice);
         let rated = rate(&case);
         assert!(rated.answer <= 11 && rated.rating <= 5_000_000);
         assert!(rated.answer == 0 || (rated.rating == 0 && rated.sheet == [0; 13]));

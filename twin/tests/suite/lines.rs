@@ -1,8 +1,8 @@
 // The line reader's edge cases, through the same function the program uses.
 
-use crate::cases::{Words, SL_TYPE};
+use crate::cases::SL_TYPE;
 use twin::lines::{answer_lines, read_line, Line};
-use twin::rating::rate;
+use twin::rating::{rate, Words};
 
 fn answers(input: &[u8]) -> String {
     let mut output = Vec::new();

@@ -1,9 +1,11 @@
 // The twin's tests as one program: document 01's edge values, the refusals,
 // agreement with the standard in floating point and with the published
-// ratings, and the line reader.
+// ratings, the line reader, and the book with its listing.
 
 mod agreement;
+mod book;
 mod cases;
+mod drawn_books;
 mod edges;
 mod lines;
 mod published;

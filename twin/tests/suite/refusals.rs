@@ -1,10 +1,8 @@
 // The refusals 1 to 11: each by itself, at the edges of its condition, and in
 // pairs, where the smaller number must win.
 
-use crate::cases::{
-    with, Words, ALL, FLAT, FLAT_SINGLE_POINT, SL_TYPE, TREFOIL, TREFOIL_SINGLE_POINT,
-};
-use twin::rating::{current_refused, rate, Rated};
+use crate::cases::{with, ALL, FLAT, FLAT_SINGLE_POINT, SL_TYPE, TREFOIL, TREFOIL_SINGLE_POINT};
+use twin::rating::{current_refused, rate, Rated, Words};
 use twin::standard::Cable;
 
 type Changes = &'static [(usize, u32)];

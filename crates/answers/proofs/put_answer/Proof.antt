@@ -6,11 +6,10 @@ use Prim.Native.Nat.{ℕ, _+_, _^_, _≤_, _<_}
 use native.Mathlib.Omega.{arith}
 use borrow.Author.Needs.{needs}
 use Rattle.splice.specs.Put.{put-as, put-then}
-use Rattle.answers.proofs.Spaced.{spaced-append}
 use Rattle.answers.specs.Answers.{textOf}
 use Rattle.text.specs.Decimal.{decimal}
 use Rattle.text.specs.DecimalLaws.{count-64}
-use Rattle.text.specs.RoundTrip.{spaced, written}
+use Rattle.text.specs.RoundTrip.{spaced, written, spaced-append}
 use Rattle.answers.proofs.put_answer.Statement.{statement}
 use Rattle.answers.proofs.put_answer.Tie as tie
 

@@ -9,8 +9,7 @@ use native.Mathlib.Omega.{arith}
 use lib.ListN.{length, getD, take}
 use lib.Seq.{take-suc, take-all}
 use Rattle.splice.specs.Put.{Put, put-as, put-nothing, put-then}
-use Rattle.answers.proofs.Spaced.{spaced-append}
-use Rattle.text.specs.RoundTrip.{spaced}
+use Rattle.text.specs.RoundTrip.{spaced, spaced-append}
 use Rattle.answers.proofs.put_sheet.Statement.{statement}
 use Rattle.answers.proofs.put_sheet.Tie as tie
 

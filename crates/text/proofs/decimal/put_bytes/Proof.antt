@@ -1,4 +1,4 @@
--- `answers::put_bytes` meets its contract: where there is room for all bytes, all are kept.
+-- `text::decimal::put_bytes` meets its contract: where there is room for all bytes, all are kept.
 -- Assumes nothing.
 use mathlib.Core.List.{List}
 use mathlib.Core.Path.{_≡_, ap, _∙_}
@@ -9,9 +9,9 @@ use borrow.Author.Needs.{needs}
 use lib.ListN.{length, take}
 use lib.Seq.{take-all, take-length}
 use Rattle.splice.specs.Put.{put-as}
 use Rattle.text.specs.Gather.{piece, kept}
-use Rattle.answers.proofs.put_bytes.Statement.{statement}
-use Rattle.answers.proofs.put_bytes.Tie as tie
+use Rattle.text.proofs.decimal.put_bytes.Statement.{statement}
+use Rattle.text.proofs.decimal.put_bytes.Tie as tie
 
 all-kept : (room : ℕ) (s : List ℕ) → length s ≤ room → kept room 0 (length s) s ≡ s
 unfolding kept piece

@@ -1,4 +1,4 @@
--- `answers::put_number` meets its contract: the blank and the digits, at most 20, are joined.
+-- `text::decimal::put_number` meets its contract: the blank and the digits, at most 20, are joined.
 -- Assumes nothing.
 use mathlib.Core.List.{List, [], _∷_, _++_, append-nil}
 use mathlib.Core.Path.{_≡_, sym, ap}
@@ -6,11 +6,11 @@ use Prim.Native.Nat.{ℕ}
 use native.Mathlib.Omega.{arith}
 use borrow.Author.Needs.{needs}
 use Rattle.splice.specs.Put.{put-as, put-then}
 use Rattle.text.specs.Decimal.{decimal}
 use Rattle.text.specs.DecimalLaws.{count-64}
 use Rattle.text.specs.RoundTrip.{spaced}
-use Rattle.answers.proofs.put_number.Statement.{statement}
-use Rattle.answers.proofs.put_number.Tie as tie
+use Rattle.text.proofs.decimal.put_number.Statement.{statement}
+use Rattle.text.proofs.decimal.put_number.Tie as tie
 
 one : (x : ℕ) → (32 ∷ []) ++ decimal x ≡ spaced (x ∷ [])
 unfolding spaced

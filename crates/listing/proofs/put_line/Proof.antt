@@ -1,0 +1,39 @@
+-- `listing::put_line` meets its contract: the words, the digits, at most 20, and the line feed are joined. Assumes nothing.
+use mathlib.Core.List.{List, [], _∷_, _++_}
+use native.Mathlib.Omega.{arith}
+use Rattle.splice.specs.Put.{put-then}
+use Rattle.text.specs.Decimal.{decimal}
+use Rattle.text.specs.DecimalLaws.{count-64}
+use borrow.Author.Needs.{needs}
+use Rattle.listing.proofs.put_line.Statement.{statement}
+use Rattle.listing.proofs.put_line.Tie as tie
+
+put-bytes-requires : tie.Need-put-bytes-requires
+put-bytes-requires c κs = search needs
+
+put-decimal-requires : tie.Need-put-decimal-requires
+put-decimal-requires c κs = search needs
+
+put-byte-requires : tie.Need-put-byte-requires
+put-byte-requires c κs =
+    let digits = c .before .before .before in
+    let start = digits .before .before .before .before .before .before .before .before in
+    omega (arith, count-64 (start .args .number) (start .fits .number .fits))
+
+same-length : tie.Need-same-length
+same-length c = search needs
+
+returns : tie.Need-returns
+returns c =
+    let ended = c .before .before in
+    let digits = ended .before .before .before .before in
+    let words = digits .before .before .before .before in
+    let start = words .before .before .before .before in
+    let n = start .args .number in
+    let two = put-then _ _ _ (decimal n) (omega (arith, start .pre)) (words .put-bytes .ensures) (digits .put-decimal .ensures) in
+    (put-then _ _ _ (10 ∷ []) (omega (arith, start .pre)) two (ended .put-byte .ensures), omega (arith, count-64 n (start .fits .number .fits)))
+
+pub put-line-spec : {M : Type 1} → statement M
+put-line-spec =
+    tie.close
+    (tie.spec put-bytes-requires put-decimal-requires put-byte-requires same-length returns)

@@ -1,0 +1,10 @@
+// Writing the front of a buffer to standard output, for the programs.
+use libc::STDOUT_FILENO;
+
+// Writes the first `used` bytes of `out`, or all of it where it has fewer. Answers whether all of that was written.
+pub fn send(out: &[u8], used: usize) -> bool {
+    if used < out.len() {
+        return io::write_all(STDOUT_FILENO, &out[..used]);
+    }
+    io::write_all(STDOUT_FILENO, out)
+}

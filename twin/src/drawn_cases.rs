@@ -1,0 +1,98 @@
+// Cases made by dice: sound ones, sound ones with some words replaced, and a
+// mixture of rated and refused ones for the records of a book.
+
+use crate::dice::Dice;
+use crate::rating::Words;
+
+/// Fields 17 to 21 of an SL cable, past every refusal of them.
+fn sound_armour(dice: &mut Dice, theta_c: i64) -> [i64; 5] {
+    let resistance = dice.between(1000, 20_000_000);
+    let theta = dice.between(-4000, theta_c);
+    let diameter = dice.between(200, 50000);
+    [6, resistance, theta, dice.between(100, diameter / 2), diameter]
+}
+
+/// dc, s, ds, Di and d, past the refusal of geometry.
+fn sound_dimensions(dice: &mut Dice) -> [i64; 5] {
+    let ds = dice.between(100, 20000);
+    let di = dice.between((105 * ds + 99) / 100, 30000);
+    let d = dice.between(di, 50000);
+    [dice.between(100, ds.min(10000)), dice.between(d, 1_000_000), ds, di, d]
+}
+
+/// A case within every limit and past refusals 1 to 7, of any arrangement.
+pub fn sound_case(dice: &mut Dice) -> Words {
+    let arrangement = dice.between(1, 5);
+    let theta_c = dice.between(4000, 25000);
+    let ambient = dice.between(-4000, (theta_c - 500).min(6000));
+    let [dc, s, ds, di, d] = sound_dimensions(dice);
+    let sheath_metal = if arrangement >= 3 { 1 } else { dice.between(1, 6) };
+    let mut case = [
+        arrangement,
+        dice.between(1, 8),
+        dice.between(1000, 6500),
+        theta_c,
+        ambient,
+        dice.between(5000, 20_000_000),
+        dc,
+        s,
+        ds,
+        di,
+        dice.between(0, 300_000),
+        dice.between(100, 800),
+        dice.between(1, 10000),
+        d,
+        sheath_metal,
+        dice.between(1000, 20_000_000),
+        dice.between(-4000, theta_c),
+        0,
+        0,
+        0,
+        0,
+        0,
+        dice.between(1000, 10_000_000),
+        dice.between(0, 10_000_000),
+        dice.between(0, 10_000_000),
+        dice.between(10000, 20_000_000),
+    ];
+    if arrangement == 5 {
+        case[17..=21].copy_from_slice(&sound_armour(dice, theta_c));
+    }
+    case.map(|value| value as u32)
+}
+
+/// Replaces some fields, most of them by words far outside their limits.
+pub fn disturb(case: &mut Words, times: usize, dice: &mut Dice) {
+    for _ in 0..times {
+        let field = (dice.roll() % 26) as usize;
+        case[field] = match dice.roll() % 4 {
+            0 => u32::MAX,
+            1 => 1 << 31,
+            2 => (1 << 31) - 1,
+            _ => dice.roll() as u32,
+        };
+    }
+}
+
+/// A case that may be rated and may get any refusal.
+pub fn mixed_case(dice: &mut Dice) -> Words {
+    let mut case = sound_case(dice);
+    match dice.roll() % 5 {
+        // Without voltage there is no dielectric loss, and most cases are rated.
+        0 => case[10] = 0,
+        // With the lowest thermal resistances too, some currents are refused.
+        1 => {
+            case[10] = 0;
+            case[22..].copy_from_slice(&[1000, 0, 0, 10000]);
+        }
+        2 => disturb(&mut case, 1, dice),
+        // A field of another sound case is in its own limits but may not go
+        // with the rest: refusals 3 to 7.
+        3 => {
+            let field = (dice.roll() % 26) as usize;
+            case[field] = sound_case(dice)[field];
+        }
+        _ => {}
+    }
+    case
+}

@@ -34,18 +34,19 @@ pub fn accept(buffer: &[u8], used: usize) -> Acceptance
         return unaccepted(d.number, 0);
     }
     let count = d.count;
-    let first = d.first;
-    let mut i = 0;
-    while i < count {
-        if !record_agrees(buffer, first + 112 * i) {
-            return unaccepted(23, i + 1);
+    let mut at = d.first;
+    let mut left = count;
+    while 0 < left {
+        if !record_agrees(buffer, at) {
+            return unaccepted(23, count - left + 1);
         }
-        i += 1;
+        at += 112;
+        left -= 1;
     }
     Acceptance {
         number: 0,
         count,
-        note: first,
+        note: d.first,
         named: 0,
     }
 }

@@ -1,7 +1,9 @@
 // Appending a case: its record stands in place of the trailer, and the new trailer after it.
+ghost use mathlib.Core.Bool.{cond};
 ghost use mathlib.Core.List.{_++_};
 ghost use mathlib.Core.Path.{_≡_};
 ghost use Prim.Native.Nat.{_+_, _≤_};
+ghost use lib.Dec.{leb, ltb};
 ghost use lib.ListN.{length};
 ghost use Rattle.book_laws.specs.Append.{appendOf};
 ghost use Rattle.book_laws.specs.Format.{recordBytes, trailerBytes};
@@ -25,6 +27,19 @@ fn put_record(buffer: &mut [u8], at: usize, x: [u32; 26], count: u32)
     put_trailer(buffer, at + 112, count);
 }
 
+// Append's own refusals: 25 of a book of 100000 records, then 24 where the buffer has fewer than 112 bytes left; or 0.
+fn own_refusal(count: usize, left: usize) -> u32
+    ensures { λ r. ⌜ r ≡ cond (leb 100000 count) 25 (cond (ltb left 112) 24 0) ⌝ }
+{
+    if 100000 <= count {
+        return 25;
+    }
+    if left < 112 {
+        return 24;
+    }
+    0
+}
+
 pub fn append(buffer: &mut [u8], used: usize, x: [u32; 26]) -> Written
     ensures { λ r. ⌜ writtenOf r (now (buffer .exit)) ≡ appendOf (now (buffer .entry)) used x ⌝ }
 {
@@ -32,11 +47,9 @@ pub fn append(buffer: &mut [u8], used: usize, x: [u32; 26]) -> Written
     if d.number != 0 {
         return unwritten(d.number);
     }
-    if 100000 <= d.count {
-        return unwritten(25);
-    }
-    if buffer.len() - used < 112 {
-        return unwritten(24);
+    let own = own_refusal(d.count, buffer.len() - used);
+    if own != 0 {
+        return unwritten(own);
     }
     put_record(buffer, used - 16, x, d.count as u32 + 1);
     Written {

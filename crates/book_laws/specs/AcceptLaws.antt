@@ -14,26 +14,19 @@ use Rattle.book_laws.specs.Trailer.{mostRecords, describe}
 use Rattle.book_laws.specs.TrailerLaws.{Described, described, onBook-on, onBook-refused}
 use Rattle.book_laws.specs.Accept.{Acceptance, agrees, allAgree, unaccepted, acceptAfter, acceptOf}
 
--- the first of n records decides, and then the rest
+-- the first of the records that are left decides, and then the rest
 pub allAgree-on :
-    (b : List ℕ) (first count i : ℕ) → i < count → agrees b (first + recordLength * i) ≡ true →
-    allAgree b (first + recordLength * i) (count - i) ≡ allAgree b (first + recordLength * (i + 1)) (count - (i + 1))
+    (b : List ℕ) (at left : ℕ) → 0 < left → agrees b at ≡ true → allAgree b at left ≡ allAgree b (at + recordLength) (left - 1)
 unfolding allAgree
-allAgree-on b first count i h agreed =
-    let left : count - i ≡ suc (count - (i + 1)) = omega arith in
-    let next : first + recordLength * i + recordLength ≡ first + recordLength * (i + 1) = omega arith in
-    ap (allAgree b (first + recordLength * i)) left
-    ∙ ap (λ (t : Bool). t && allAgree b (first + recordLength * i + recordLength) (count - (i + 1))) agreed
-    ∙ ap (λ (at : ℕ). allAgree b at (count - (i + 1))) next
+allAgree-on b at left h agreed =
+    let one-more : left ≡ suc (left - 1) = omega arith in
+    ap (allAgree b at) one-more ∙ ap (λ (t : Bool). t && allAgree b (at + recordLength) (left - 1)) agreed
 
-pub allAgree-stop :
-    (b : List ℕ) (first count i : ℕ) → i < count → agrees b (first + recordLength * i) ≡ false →
-    allAgree b (first + recordLength * i) (count - i) ≡ false
+pub allAgree-stop : (b : List ℕ) (at left : ℕ) → 0 < left → agrees b at ≡ false → allAgree b at left ≡ false
 unfolding allAgree
-allAgree-stop b first count i h differing =
-    let left : count - i ≡ suc (count - (i + 1)) = omega arith in
-    ap (allAgree b (first + recordLength * i)) left
-    ∙ ap (λ (t : Bool). t && allAgree b (first + recordLength * i + recordLength) (count - (i + 1))) differing
+allAgree-stop b at left h differing =
+    let one-more : left ≡ suc (left - 1) = omega arith in
+    ap (allAgree b at) one-more ∙ ap (λ (t : Bool). t && allAgree b (at + recordLength) (left - 1)) differing
 
 -- each record of n agrees where all do
 pub allAgree-each : (b : List ℕ) (at n i : ℕ) → allAgree b at n ≡ true → i < n → agrees b (at + recordLength * i) ≡ true

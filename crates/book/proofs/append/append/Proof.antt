@@ -1,16 +1,20 @@
 -- `book::append::append` meets its contract: the trailer's refusals, 25, 24, and else the record and the new trailer are written.
 -- Assumes nothing.
+use mathlib.Core.Bool.{Bool, true, false, cond}
 use mathlib.Core.List.{List, _++_}
 use mathlib.Core.Path.{_≡_, refl, sym, ap, _∙_}
-use Prim.Native.Nat.{ℕ, _+_, _-_, _*_, _≤_, _<_}
+use Prim.Native.Nat.{ℕ, _+_, _-_, _≤_, _<_}
+use native.Mathlib.Nat.{suc-ne-zero}
 use native.Mathlib.Omega.{arith}
+use lib.Dec.{leb, ltb}
 use lib.ListN.{length}
-use borrow.Author.Tests.{lt-ltb, le-ltb, le-leb, lt-leb}
+use denote.Ref.{now}
+use borrow.Author.Tests.{lt-ltb, le-ltb, lt-leb, ltb-true, ltb-false, leb-false}
 use Rattle.splice.specs.Splice.{splice}
 use Rattle.book_laws.specs.Format.{recordBytes, trailerBytes}
 use Rattle.book_laws.specs.Trailer.{describe}
 use Rattle.book_laws.specs.TrailerLaws.{onBook-on, onBook-refused}
-use Rattle.book_laws.specs.Start.{unwritten}
+use Rattle.book_laws.specs.Start.{Written, unwritten}
 use Rattle.book_laws.specs.Append.{appendAfter, appendOf}
 use Rattle.book.specs.declared.trailer.Description as Code
 use Rattle.book.specs.Answers.{descriptionOf}
@@ -18,6 +22,36 @@ use Rattle.book.proofs.Described.{of-book}
 use borrow.Author.Needs.{needs}
 use Rattle.book.proofs.append.append.Statement.{statement}
 use Rattle.book.proofs.append.append.Tie as tie
+
+-- what `own_refusal` answers
+abbrev ownOf : ℕ → ℕ → ℕ
+ownOf count left = cond (leb 100000 count) 25 (cond (ltb left 112) 24 0)
+
+own-none : (count left : ℕ) → ownOf count left ≡ 0 → (count < 100000) × (112 ≤ left)
+own-none count left e = by-tests (leb 100000 count) (ltb left 112) refl refl e
+  where
+    by-tests :
+        (full short : Bool) → leb 100000 count ≡ full → ltb left 112 ≡ short → _≡_ {A = ℕ} (cond full 25 (cond short 24 0)) 0 →
+        (count < 100000) × (112 ≤ left)
+    by-tests true short f s e = absurd (suc-ne-zero 24 e)
+    by-tests false true f s e = absurd (suc-ne-zero 23 e)
+    by-tests false false f s e = (leb-false 100000 count f, ltb-false left 112 s)
+
+-- 112 bytes are left where 112 more fit
+same-room : (n used : ℕ) → used ≤ n → ltb (n - used) 112 ≡ ltb n (used + 112)
+same-room n used h = by-test (ltb n (used + 112)) refl
+  where
+    by-test : (short : Bool) → ltb n (used + 112) ≡ short → ltb (n - used) 112 ≡ ltb n (used + 112)
+    by-test true t = lt-ltb (n - used) 112 (omega (arith, ltb-true n (used + 112) t)) ∙ sym t
+    by-test false t = le-ltb (n - used) 112 (omega (arith, ltb-false n (used + 112) t)) ∙ sym t
+
+-- one chain of tests gives the number and the answer
+chosen :
+    (full short : Bool) (b : List ℕ) (rest : Written) → (_≡_ {A = ℕ} (cond full 25 (cond short 24 0)) 0 → ⊥) →
+    cond full (unwritten 25 b) (cond short (unwritten 24 b) rest) ≡ unwritten (cond full 25 (cond short 24 0)) b
+chosen true short b rest given = refl
+chosen false true b rest given = refl
+chosen false false b rest given = absurd (given refl)
 
 module _ (b : List ℕ) (used : ℕ) (x : List ℕ) {d : Code.Description} (is : descriptionOf d ≡ describe b used) where
   by-trailer : (d .number ≡ 0 → ⊥) → appendOf b used x ≡ unwritten (d .number) b
@@ -28,20 +62,24 @@ module _ (b : List ℕ) (used : ℕ) (x : List ℕ) {d : Code.Description} (is :
   unfolding appendOf
   on none = onBook-on b used _ _ is none
 
-  full : d .number ≡ 0 → 100000 ≤ d .count → appendOf b used x ≡ unwritten 25 b
+  by-own :
+      {r : ℕ} → d .number ≡ 0 → used ≤ length b → r ≡ ownOf (d .count) (length b - used) → (r ≡ 0 → ⊥) →
+      appendOf b used x ≡ unwritten r b
   unfolding appendAfter
-  full none most = on none ∙ simp (le-leb _ _ most)
-
-  no-room : d .number ≡ 0 → d .count < 100000 → length b < used + 112 → appendOf b used x ≡ unwritten 24 b
-  unfolding appendAfter
-  no-room none few short = on none ∙ simp (lt-leb _ _ few, lt-ltb _ _ short)
+  by-own {r} none within own-is given =
+      let number-is : r ≡ cond (leb 100000 (d .count)) 25 (cond (ltb (length b) (used + 112)) 24 0) =
+      own-is ∙ ap (λ (short : Bool). cond (leb 100000 (d .count)) 25 (cond short 24 0)) (same-room (length b) used within)
+      in
+      on none
+      ∙ chosen (leb 100000 (d .count)) (ltb (length b) (used + 112)) b _ (λ zero-is. given (number-is ∙ zero-is))
+      ∙ ap (λ (n : ℕ). unwritten n b) (sym number-is)
 
   appended :
       {m : List ℕ} → d .number ≡ 0 → d .count < 100000 → used + 112 ≤ length b →
       m ≡ splice b (used - 16) (recordBytes x ++ trailerBytes (d .count + 1)) →
       appendOf b used x ≡ record { number = 0; used = used + 112; bytes = m }
   unfolding appendAfter
-  appended none few room put = on none ∙ rw put (simp (lt-leb _ _ few, le-ltb _ _ room))
+  appended none few fits put = on none ∙ rw put (simp (lt-leb _ _ few, le-ltb _ _ fits))
 
 describe-book-requires : tie.Need-describe-book-requires
 describe-book-requires c κs = search needs
@@ -55,6 +93,13 @@ same-length c = search needs
 returns : tie.Need-returns
 returns c = c .unwritten .ensures _ ∙ sym (by-trailer _ _ _ (c .before .before .before .describe-book .ensures) (c .before .if1 .taken))
 
+sub-own-refusal : tie.Need-sub-own-refusal
+sub-own-refusal c =
+    omega (arith, of-book _ _ (c .before .before .describe-book .ensures) (c .if1 .left) .used-most)
+
+own-refusal-requires : tie.Need-own-refusal-requires
+own-refusal-requires c κs = search needs
+
 unwritten-requires-2 : tie.Need-unwritten-requires-2
 unwritten-requires-2 c κs = search needs
 
@@ -63,62 +108,52 @@ same-length-2 c = search needs
 
 returns-2 : tie.Need-returns-2
 returns-2 c =
-    let tested = c .before .before .before in
+    let own = c .before .before in
+    let told = own .before .before .before .describe-book .ensures in
+    let none = own .before .if1 .left in
     c .unwritten2 .ensures _
-    ∙ sym (full _ _ _ (tested .before .before .describe-book .ensures) (tested .if1 .left) (c .before .if2 .taken))
+    ∙ sym (by-own _ _ _ told none (of-book _ _ told none .used-most) (own .own-refusal .ensures) (c .before .if2 .taken))
 
-sub-if3 : tie.Need-sub-if3
-sub-if3 c =
-    let tested = c .before .before in
-    omega (arith, of-book _ _ (tested .before .before .describe-book .ensures) (tested .if1 .left) .used-most)
+sub-put-record : tie.Need-sub-put-record
+sub-put-record c =
+    let tested = c .before .before .before in
+    omega (arith, of-book _ _ (tested .before .before .describe-book .ensures) (tested .if1 .left) .places)
 
-unwritten-requires-3 : tie.Need-unwritten-requires-3
-unwritten-requires-3 c κs = search needs
+-- a record more fits, where append's own refusals are not given
+room :
+    (c : tie.After-struct-known2) →
+    let own = c .before .before .before in
+    let told = own .before .before .before in
+    (told .describe-book .result .count < 100000)
+    × (112 ≤ length (now (told .before .before .before .args .buffer)) - told .before .before .before .args .used)
+room c = let own = c .before .before .before in own-none _ _ (sym (own .own-refusal .ensures) ∙ c .before .before .if2 .left)
+
+cast-put-record : tie.Need-cast-put-record
+cast-put-record c = omega (arith, room c .0)
+
+add-put-record : tie.Need-add-put-record
+add-put-record c = omega (arith, room c .0)
+
+put-record-requires : tie.Need-put-record-requires
+put-record-requires c κs =
+    let tested = c .before .before .before .before in
+    let book = of-book _ _ (tested .before .before .describe-book .ensures) (tested .if1 .left) in
+    (omega (arith, book .used-most, book .places, room c .1), omega (arith, room c .0))
+
+add-t9 : tie.Need-add-t9
+add-t9 c = omega (arith, room (c .before .before .before) .1)
 
 same-length-3 : tie.Need-same-length-3
 same-length-3 c = search needs
 
 returns-3 : tie.Need-returns-3
 returns-3 c =
-    let counted = c .before .before in
-    let tested = counted .before .before in
-    let is = tested .before .before .describe-book .ensures in
-    let fits = of-book _ _ is (tested .if1 .left) .used-most in
-    c .unwritten3 .ensures _
-    ∙ sym (no-room _ _ _ is (tested .if1 .left) (counted .if2 .left) (omega (arith, fits, c .before .if3 .taken)))
-
-sub-put-record : tie.Need-sub-put-record
-sub-put-record c =
-    let tested = c .before .before .before .before in
-    omega (arith, of-book _ _ (tested .before .before .describe-book .ensures) (tested .if1 .left) .places)
-
-cast-put-record : tie.Need-cast-put-record
-cast-put-record c = search needs
-
-add-put-record : tie.Need-add-put-record
-add-put-record c = search needs
-
-put-record-requires : tie.Need-put-record-requires
-put-record-requires c κs =
-    let tested = c .before .before .before .before .before in
-    let book = of-book _ _ (tested .before .before .describe-book .ensures) (tested .if1 .left) in
-    (omega (arith, book .used-most, book .places, c .before .before .if3 .left), omega (arith, c .before .before .before .if2 .left))
-
-add-t9 : tie.Need-add-t9
-add-t9 c = search needs
-
-same-length-4 : tie.Need-same-length-4
-same-length-4 c = search needs
-
-returns-4 : tie.Need-returns-4
-returns-4 c =
     let put = c .before .before in
-    let roomy = put .before .before .before in
-    let counted = roomy .before in
-    let tested = counted .before .before in
-    let is = tested .before .before .describe-book .ensures in
-    let fits = of-book _ _ is (tested .if1 .left) .used-most in
-    sym (appended _ _ _ is (tested .if1 .left) (counted .if2 .left) (omega (arith, fits, roomy .if3 .left)) (put .put-record .ensures))
+    let known = put .before in
+    let tested = known .before .before .before .before in
+    let told = tested .before .before .describe-book .ensures in
+    let none = tested .if1 .left in
+    sym (appended _ _ _ told none (room known .0) (omega (arith, of-book _ _ told none .used-most, room known .1)) (put .put-record .ensures))
 
 pub append-spec : {M : Type 1} → statement M
 append-spec =
@@ -128,17 +163,15 @@ append-spec =
     unwritten-requires
     same-length
     returns
+    sub-own-refusal
+    own-refusal-requires
     unwritten-requires-2
     same-length-2
     returns-2
-    sub-if3
-    unwritten-requires-3
-    same-length-3
-    returns-3
     sub-put-record
     cast-put-record
     add-put-record
     put-record-requires
     add-t9
-    same-length-4
-    returns-4)
+    same-length-3
+    returns-3)

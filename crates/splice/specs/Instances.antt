@@ -3,9 +3,10 @@ use mathlib.Core.List.{List, [], _∷_, _++_}
 use mathlib.Core.Path.{_≡_, refl}
 use Prim.Native.Nat.{ℕ}
 use lib.Dec.{lit<, lit≤}
-use lib.ListN.{length, take, drop, set}
+use lib.ListN.{length, getD, take, drop, set}
+use lib.Seq.{sets}
 use Rattle.splice.specs.Splice.{splice}
-use Rattle.splice.specs.Laws.{splice-length, splice-before, splice-past, splice-one, splice-after, splice-again}
+use Rattle.splice.specs.Laws.{splice-length, splice-before, splice-past, splice-one, splice-after, splice-again, splice-over, splice-sets, copy-one}
 use Rattle.splice.specs.Put.{Put, put-nothing, put-as, put-then}
 
 abbrev six : List ℕ
@@ -44,3 +45,12 @@ both-written = put-then six 1 part part (lit≤ tt) written (refl, refl)
 
 same-written : Put six 2 [] six 2
 same-written = put-as six 2 refl (put-nothing six 2)
+
+copied : take 1 (set six 0 (getD part 0 0)) ≡ 7 ∷ []
+copied = copy-one six part 0 (lit< tt) (lit< tt) refl
+
+over : splice (splice six 1 (part ++ part)) 3 (9 ∷ 9 ∷ []) ≡ splice six 1 (part ++ (9 ∷ 9 ∷ []))
+over = splice-over six 1 part part (9 ∷ 9 ∷ []) (lit≤ tt) (lit≤ tt)
+
+stored : sets six 1 part ≡ splice six 1 part
+stored = splice-sets six 1 part (lit≤ tt)

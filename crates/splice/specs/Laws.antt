@@ -6,8 +6,8 @@ use Prim.Native.Nat.{ℕ, _+_, _-_, _≤_, _<_}
 use native.Mathlib.Nat.{add-zero}
 use native.Mathlib.Numerals.{add-one}
 use native.Mathlib.Omega.{arith}
-use lib.ListN.{length, take, drop, set, length-append, length-drop, take-append-drop}
-use lib.Seq.{sets, sets-eq, length-take-le, take-at, drop-append-add, drop-drop, set-split, append-snoc}
+use lib.ListN.{length, getD, take, drop, set, length-append, length-drop, take-append-drop}
+use lib.Seq.{sets, sets-eq, length-take-le, take-at, drop-append-add, drop-drop, set-split, append-snoc, take-suc, take-suc-set}
 use Rattle.splice.specs.Splice.{splice}
 
 -- what stands past the first n + k elements, the first n of which are p
@@ -106,3 +106,14 @@ splice-over l at u v w h longer =
     ap (λ (t : List ℕ). splice t (at + length u) w) (sym (splice-after l at u v h))
     ∙ splice-twice m (at + length u) v w reaches longer
     ∙ splice-after l at u w h
+
+-- a list copied over another from the front: one element more
+pub copy-one :
+    (to from : List ℕ) (i : ℕ) → i < length to → i < length from → take i to ≡ take i from →
+    take (i + 1) (set to i (getD from i 0)) ≡ take (i + 1) from
+copy-one to from i to> from> so-far =
+    ap (λ (k : ℕ). take k (set to i (getD from i 0))) (add-one i)
+    ∙ take-suc-set to i (getD from i 0) to>
+    ∙ ap (λ (t : List ℕ). t ++ (getD from i 0 ∷ [])) so-far
+    ∙ sym (take-suc from i 0 from>)
+    ∙ ap (λ (k : ℕ). take k from) (sym (add-one i))

@@ -1,5 +1,5 @@
 // The functions of `wide` under C's calling convention, for programs in other languages.
-// Nothing here tests a `requires`: the caller does, before each call, as twin/bench/wide.rs does.
+// Nothing here tests a `requires`: the caller does, before each call, as twin/measure/wide.rs does.
 ghost use mathlib.Core.Path.{_≡_};
 ghost use Prim.Native.Nat.{_+_, _*_, _^_, _≤_, _<_};
 ghost use Rattle.exact.specs.Rounding.{up, down};

@@ -7,16 +7,9 @@ use native.Mathlib.Numerals.{add-one}
 use native.Mathlib.Omega.{arith}
 use lib.ListN.{length, getD, take, set, length-set}
 use lib.Seq.{take-all, take-suc, take-suc-set, take-set-le}
+use Rattle.splice.specs.Laws.{copy-one}
 use Rattle.book.proofs.record.fields_of.Statement.{statement}
 use Rattle.book.proofs.record.fields_of.Tie as tie
-
-one-more : (f x : List ℕ) (i : ℕ) → i < length f → i < length x → take i f ≡ take i x → take (i + 1) (set f i (getD x i 0)) ≡ take (i + 1) x
-one-more f x i f> x> so-far =
-    ap (λ (k : ℕ). take k (set f i (getD x i 0))) (add-one i)
-    ∙ take-suc-set f i (getD x i 0) f>
-    ∙ ap (λ (t : List ℕ). t ++ (getD x i 0 ∷ [])) so-far
-    ∙ sym (take-suc x i 0 x>)
-    ∙ ap (λ (k : ℕ). take k x) (sym (add-one i))
 
 -- the answer and the rating are stored after the case
 last-two :
@@ -67,7 +60,7 @@ loop-again c =
     let at-loop = c .before .loop in (
       omega arith,
       length-set (at-loop .fields) (at-loop .i) _ ∙ at-loop .inv .1,
-      one-more (at-loop .fields) (c .before .before .args .t1) (at-loop .i) (omega arith) (omega arith) (at-loop .inv .2),
+      copy-one (at-loop .fields) (c .before .before .args .t1) (at-loop .i) (omega arith) (omega arith) (at-loop .inv .2),
     )
 
 array-write-fields-2 : tie.Need-array-write-fields-2 Inv-loop μ-loop

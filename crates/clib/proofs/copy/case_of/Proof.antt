@@ -1,0 +1,68 @@
+-- `clib::copy::case_of` meets its contract. The invariant: the first i words are copied. The measure is how many are left. Assumes nothing.
+use mathlib.Core.List.{List, [], _∷_, _++_}
+use mathlib.Core.Path.{_≡_, refl, sym, ap, _∙_}
+use Prim.Native.Nat.{ℕ, _+_, _-_, _≤_, _<_}
+use native.Mathlib.Omega.{arith}
+use lib.ListN.{length, take, length-set}
+use lib.Seq.{take-all}
+use Rattle.splice.specs.Laws.{copy-one}
+use Rattle.clib.proofs.copy.case_of.Statement.{statement}
+use Rattle.clib.proofs.copy.case_of.Tie as tie
+
+abbrev Inv-loop : tie.InvT-loop
+Inv-loop case x₀ i₀ x i = (i ≤ 26) × (length x ≡ 26) × (take i x ≡ take i case)
+
+abbrev μ-loop : tie.MeasureT-loop
+μ-loop case x₀ i₀ x i = 26 - i
+
+loop-holds : tie.Need-loop-holds Inv-loop μ-loop
+loop-holds c = (omega arith, refl, refl)
+
+mul-x : tie.Need-mul-x Inv-loop μ-loop
+mul-x c = omega arith
+
+shared-slice-read-x : tie.Need-shared-slice-read-x Inv-loop μ-loop
+shared-slice-read-x c = omega arith
+
+mul-x-2 : tie.Need-mul-x-2 Inv-loop μ-loop
+mul-x-2 c = omega arith
+
+array-write-x : tie.Need-array-write-x Inv-loop μ-loop
+array-write-x c = omega arith
+
+add-i : tie.Need-add-i Inv-loop μ-loop
+add-i c = omega arith
+
+loop-less : tie.Need-loop-less Inv-loop μ-loop
+loop-less c = omega arith
+
+loop-again : tie.Need-loop-again Inv-loop μ-loop
+loop-again c =
+    let at-loop = c .before .before .loop in
+    let start = c .before .before .before in (
+      omega arith,
+      length-set (at-loop .x) (at-loop .i) _ ∙ at-loop .inv .1,
+      copy-one (at-loop .x) _ (at-loop .i) (omega arith) (omega (arith, start .pre)) (at-loop .inv .2),
+    )
+
+returns : tie.Need-returns Inv-loop μ-loop
+returns c =
+    let at-loop = c .before .loop in
+    let start = c .before .before in
+    sym (take-all (at-loop .i) (at-loop .x) (omega arith)) ∙ at-loop .inv .2 ∙ take-all (at-loop .i) _ (omega (arith, start .pre))
+
+pub case-of-spec : {M : Type 1} → statement M
+case-of-spec =
+    tie.close
+    (tie.spec
+    Inv-loop
+    μ-loop
+    loop-holds
+    mul-x
+    shared-slice-read-x
+    mul-x-2
+    array-write-x
+    add-i
+    loop-less
+    loop-again
+    returns)

@@ -1,0 +1,43 @@
+-- `clib::sheafdawn_read` meets its contract. Assumes nothing.
+use mathlib.Core.List.{List, [], _∷_, _++_}
+use mathlib.Core.Path.{_≡_, refl, sym, ap, ap₂, _∙_}
+use Prim.Native.Nat.{ℕ, _+_}
+use native.Mathlib.Omega.{arith}
+use lib.ListN.{length, set}
+use borrow.Author.Tests.{eq-eqb, ne-eqb}
+use Rattle.book_laws.specs.Read.{Fields, readOf}
+use Rattle.book.specs.declared.read.Record.{Record}
+use Rattle.book.specs.Answers.{fieldsRead}
+use Rattle.clib.specs.Calls.{call, called, readCall}
+use borrow.Author.Needs.{needs}
+use Rattle.clib.proofs.sheafdawn_read.Statement.{statement}
+use Rattle.clib.proofs.sheafdawn_read.Tie as tie
+
+called-right :
+    (b : List ℕ) (used index : ℕ) (out : List ℕ) {r : Record} {m : List ℕ} → length out ≡ 28 → fieldsRead r ≡ readOf b used index →
+    m ≡ r .fields → call (r .number) m ≡ readCall b used index out
+unfolding readCall called
+called-right b used index out is-28 found wrote = rw (wrote, ← found) (sym (simp (eq-eqb _ _ is-28)))
+
+returns : tie.Need-returns
+unfolding readCall called
+returns c = simp (ne-eqb _ _ (c .if1 .taken))
+
+read-requires : tie.Need-read-requires
+read-requires c κs = search needs
+
+put-fields-requires : tie.Need-put-fields-requires
+put-fields-requires c κs = search needs
+
+same-length : tie.Need-same-length
+same-length c = search needs
+
+returns-2 : tie.Need-returns-2
+returns-2 c =
+    let put = c .before .before in
+    let found = put .before .before .before in
+    called-right _ _ _ _ (found .before .if1 .left) (found .read .ensures) (put .put-fields .ensures)
+
+pub sheafdawn-read-spec : {M : Type 1} → statement M
+sheafdawn-read-spec =
+    tie.close (tie.spec returns read-requires put-fields-requires same-length returns-2)

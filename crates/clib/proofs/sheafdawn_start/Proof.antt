@@ -1,0 +1,44 @@
+-- `clib::sheafdawn_start` meets its contract. Assumes nothing.
+use mathlib.Core.List.{List, [], _∷_, _++_}
+use mathlib.Core.Path.{_≡_, refl, sym, ap, ap₂, _∙_}
+use Prim.Native.Nat.{ℕ, _+_}
+use native.Mathlib.Omega.{arith}
+use lib.ListN.{length, set}
+use denote.Ref.{now}
+use borrow.Author.Tests.{eq-eqb, ne-eqb}
+use Rattle.book_laws.specs.Start.{Written, startOf}
+use Rattle.book.specs.declared.start.Written as Code
+use Rattle.book.specs.Answers.{writtenOf}
+use Rattle.clib.specs.Calls.{bookCall, writtenCall, startCall, wrongLength}
+use Rattle.clib.proofs.Outs.{one-place, written}
+use borrow.Author.Needs.{needs}
+use Rattle.clib.proofs.sheafdawn_start.Statement.{statement}
+use Rattle.clib.proofs.sheafdawn_start.Tie as tie
+
+returns : tie.Need-returns
+unfolding startCall writtenCall
+returns c = simp (ne-eqb _ _ (c .if1 .taken))
+
+start-requires : tie.Need-start-requires
+start-requires c κs = search needs
+
+slice-write-out : tie.Need-slice-write-out
+slice-write-out c = search needs
+
+same-length : tie.Need-same-length
+same-length c = search needs
+
+same-length-2 : tie.Need-same-length-2
+same-length-2 c = search needs
+
+returns-2 : tie.Need-returns-2
+unfolding startCall
+returns-2 c =
+    let started = c .before .before in
+    let is-1 = started .before .before .if1 .left in
+    let out = now (started .before .before .before .before .before .args .out) in
+    written _ out (one-place out _ is-1) is-1 (started .start .ensures)
+
+pub sheafdawn-start-spec : {M : Type 1} → statement M
+sheafdawn-start-spec =
+    tie.close (tie.spec returns start-requires slice-write-out same-length same-length-2 returns-2)

@@ -26,7 +26,7 @@ use Rattle.exact.specs.Rounding.{
   up-up,
 }
 use Rattle.exact.specs.Root.{IsRoot, root-only, square-cancel-<}
-use Rattle.exact.specs.Fraction.{_over_, whole, _+F_, _*F_, _/F_, reciprocal, _≤F_, _<F_, _≃F_, ≤F-refl, ≤F-trans, <F-≤F-trans, ≤F-<F-trans, <F→≤F, ≃F→≤F, ≃F-sym, +F-mono, +F-mono-<, *F-mono, *F-mono-<, reciprocal-anti, *F-+F, over≤up, up<over, down≤over, over<down}
+use Rattle.exact.specs.Fraction.{_over_, whole, _+F_, _*F_, _/F_, reciprocal, _≤F_, _<F_, _≃F_, ≃F-refl, ≤F-refl, ≤F-trans, <F-≤F-trans, ≤F-<F-trans, <F→≤F, ≃F→≤F, ≃F-sym, +F-mono, +F-mono-<, *F-mono, *F-mono-<, reciprocal-anti, *F-+F, over≤up, up<over, down≤over, over<down}
 use Rattle.exact.specs.Error.{
   parts,
   Within,
@@ -42,6 +42,11 @@ use Rattle.exact.specs.Error.{
   within-up,
   within-down,
   within-relative-product,
+  within-same,
+  within-scale,
+  within-round,
+  within-round-down,
+  within-relative-reciprocal,
   within-up-after,
   within-up-over,
   within-round-over,
@@ -178,4 +183,23 @@ rounded-on = (
   within-up-after (lit< tt) (within-refl (≤F-refl (7 over 3) (lit< tt))),
   within-up-over {b = 3} (lit< tt) (lit< tt) (within-refl (≤F-refl (7 over 3 * 2) (lit< tt))),
   within-round-over 400000000000 {b = 3} (lit< tt) (lit< tt) (lit≤ tt) (within-refl (≤F-refl (7 over 3 * 2) (lit< tt))),
+)
+
+-- the laws of relative errors alone, and the same values written otherwise
+sevens : Within 0 (whole 0) (7 over 1) (7 over 1)
+sevens = within-refl (≤F-refl (7 over 1) (lit< tt))
+
+relative :
+    Within 0 (whole 0) (14 over 2) (7 over 1)
+    × Within 0 (whole 0) (whole 2 *F (7 over 1)) (whole 2 *F (7 over 1))
+    × Within 400000000000 (whole 0) (7 over 3) (whole 3)
+    × Within 500000000000 (whole 0) (whole 2) (7 over 3)
+    × Within 0 (whole 0) (reciprocal (7 over 1)) (reciprocal (7 over 1))
+unfolding up down
+relative = (
+  within-same (record { left = lit< tt; right = lit< tt; across = refl }) (≃F-refl (7 over 1) (lit< tt)) sevens,
+  within-scale (whole 2) (lit< tt) sevens,
+  within-round 400000000000 {a = 7} {b = 3} (lit< tt) (lit≤ tt) (within-refl (≤F-refl (7 over 3) (lit< tt))),
+  within-round-down 500000000000 7 {b = 3} (lit< tt) (lit≤ tt),
+  within-relative-reciprocal (lit< tt) sevens,
 )

@@ -1,8 +1,8 @@
-// Cases made by dice: sound ones, sound ones with some words replaced, and a
-// mixture of rated and refused ones for the records of a book.
+// Cases made by dice: sound ones, sound ones with some words replaced, a
+// mixture of rated and refused ones for the records of a book, and rated ones.
 
 use crate::dice::Dice;
-use crate::rating::Words;
+use crate::rating::{limits, rate, Rated, Words};
 
 /// Fields 17 to 21 of an SL cable, past every refusal of them.
 fn sound_armour(dice: &mut Dice, theta_c: i64) -> [i64; 5] {
@@ -95,4 +95,47 @@ pub fn mixed_case(dice: &mut Dice) -> Words {
         _ => {}
     }
     case
+}
+
+/// A rated case and its rating. Voltages are drawn from every order of
+/// magnitude, since most cases at a high one are refused for the dielectric.
+pub fn rated_case(dice: &mut Dice) -> (Words, Rated) {
+    loop {
+        let mut case = sound_case(dice);
+        case[10] >>= dice.roll() % 20;
+        // The lowest thermal resistances make the largest currents.
+        if dice.roll().is_multiple_of(4) {
+            case[22..].copy_from_slice(&[1000, 0, 0, 10000]);
+        }
+        let rated = rate(&case);
+        if rated.answer == 0 {
+            return (case, rated);
+        }
+    }
+}
+
+/// A sound case with one field at one of its limits or next to it, on either
+/// side; the arrangement and the conductor code have limits too.
+pub fn near_limit(dice: &mut Dice) -> Words {
+    let mut case = sound_case(dice);
+    let field = dice.roll() as usize % case.len();
+    let (low, high) = limits(field);
+    let limit = if dice.roll() % 2 == 0 { low } else { high };
+    case[field] = (limit + dice.roll() as i64 % 3 - 1) as u32;
+    case
+}
+
+/// The case of a number, counted from 0: every kind in turn.
+pub fn drawn_case(dice: &mut Dice, number: usize) -> Words {
+    match number % 5 {
+        0 => rated_case(dice).0,
+        1 => sound_case(dice),
+        2 => mixed_case(dice),
+        3 => near_limit(dice),
+        _ => {
+            let mut case = sound_case(dice);
+            disturb(&mut case, 1 + number / 5 % 26, dice);
+            case
+        }
+    }
 }

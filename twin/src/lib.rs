@@ -2,12 +2,19 @@
 // document 01, written from the document alone so that another implementation
 // can be compared with it, number for number.
 
+pub mod big;
 pub mod book;
 pub mod dice;
 pub mod drawn_books;
 pub mod drawn_cases;
+pub mod ends;
+pub mod exact_rise;
+pub mod figure;
+pub mod fraction;
 pub mod lines;
 pub mod listing;
+pub mod margins;
+pub mod published;
 pub mod rating;
 pub mod stages;
 pub mod standard;

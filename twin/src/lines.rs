@@ -61,8 +61,13 @@ pub fn read_line(line: &[u8]) -> Line {
     }
 }
 
+/// A case as the line that read_line reads.
+pub fn case_line(case: &[u32; 26]) -> String {
+    case.map(|word| word.to_string()).join(" ")
+}
+
 /// The answer, the rating and the sheet, separated by single blanks.
-fn answer_line(case: &[u32; 26]) -> String {
+pub fn answer_line(case: &[u32; 26]) -> String {
     let rated = rate(case);
     let mut text = format!("{} {}", rated.answer, rated.rating);
     for number in rated.sheet {

@@ -48,8 +48,17 @@ const LIMITS: [(i64, i64); 24] = [
     (10000, 20_000_000),
 ];
 
+/// The limits of any field: those of refusals 1 and 2, and of 3.
+pub fn limits(field: usize) -> (i64, i64) {
+    match field {
+        0 => (1, 5),
+        1 => (1, 8),
+        _ => LIMITS[field - 2],
+    }
+}
+
 /// A field's value; the temperatures are two's complement.
-fn value(case: &Words, field: usize) -> i64 {
+pub fn value(case: &Words, field: usize) -> i64 {
     match field {
         3 | 4 | 16 | 19 => i64::from(case[field] as i32),
         _ => i64::from(case[field]),

@@ -6,10 +6,12 @@ use crate::whole::{down, square_root, up};
 
 pub const T: u128 = 1_000_000_000_000;
 
-const PI_LOW: u128 = 31_415_926_535;
-const PI_HIGH: u128 = 31_415_926_536;
-const LN_2_LOW: u128 = 693_147_180_559;
-const LN_2_HIGH: u128 = 693_147_180_560;
+pub const PI_LOW: u128 = 31_415_926_535;
+pub const PI_HIGH: u128 = 31_415_926_536;
+/// Pi's ends are parts of this.
+pub const PI_UNIT: u128 = 10_000_000_000;
+pub const LN_2_LOW: u128 = 693_147_180_559;
+pub const LN_2_HIGH: u128 = 693_147_180_560;
 const THIRD_OF_LN_2_LOW: u128 = 231_049_060_186;
 const THIRD_OF_LN_2_HIGH: u128 = 231_049_060_187;
 

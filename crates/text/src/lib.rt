@@ -4,4 +4,4 @@ pub mod decimal;
 pub mod gather;
 pub mod line;
 pub mod number;
-mod words;
+pub mod words;

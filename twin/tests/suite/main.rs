@@ -1,12 +1,14 @@
 // The twin's tests as one program: document 01's edge values, the refusals,
 // agreement with the standard in floating point and with the published
-// ratings, the line reader, and the book with its listing.
+// ratings, the bounds by exact fractions, the line reader, and the book with
+// its listing.
 
 mod agreement;
 mod book;
 mod cases;
 mod drawn_books;
 mod edges;
+mod exact;
 mod lines;
 mod published;
 mod refusals;

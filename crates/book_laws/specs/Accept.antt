@@ -5,7 +5,7 @@ use mathlib.Core.Path.{_≡_}
 use Prim.Native.Nat.{ℕ, zero, suc, _+_, _-_, _*_, _≤_, _<_}
 use lib.Dec.{eqb}
 use Rattle.rating.specs.Fields.{width}
-use Rattle.rating.specs.Rate.{Answer, rateOf}
+use Rattle.rating.specs.Rate.{rateOf}
 use Rattle.book_laws.specs.Format.{wordAt, wordsAt, recordLength}
 use Rattle.book_laws.specs.Trailer.{Description, describe, onBook}
 

@@ -1,36 +1,23 @@
 -- A book of given cases as it stands in a buffer: the note, the records, the trailer, and what stands behind. Its trailer tells the count
 -- and the note's length. Assumes nothing.
-use mathlib.Core.Bool.{Bool, true, false, cond, _&&_}
-use mathlib.Core.List.{List, [], _∷_, _++_, append-assoc, append-nil}
+use mathlib.Core.Bool.{Bool, true, false, _&&_}
+use mathlib.Core.List.{List, [], _∷_, _++_, append-assoc}
 use mathlib.Core.Path.{_≡_, refl, sym, ap, ap₂, _∙_}
-use Prim.Native.Nat.{ℕ, zero, suc, _+_, _-_, _*_, _≤_, _<_}
-use native.Mathlib.Nat.{add-zero, add-assoc, suc-ne-zero}
+use Prim.Native.Nat.{ℕ, _+_, _-_, _*_, _≤_}
+use native.Mathlib.Nat.{add-zero, add-assoc}
 use native.Mathlib.Omega.{arith}
-use lib.Dec.{eqb, ltb, leb}
-use lib.ListN.{length, getD, take, drop, length-append}
+use lib.Dec.{eqb}
+use lib.ListN.{length, take, drop, length-append}
 use lib.Seq.{getD-append-add, length-take-le}
-use borrow.Author.Tests.{lt-ltb, le-ltb, le-leb, lt-leb, eq-eqb, ltb-false, leb-false}
+use borrow.Author.Tests.{le-ltb, eq-eqb}
 use Rattle.splice.specs.Splice.{splice}
-use Rattle.splice.specs.Laws.{splice-length, splice-over}
-use Rattle.book_laws.specs.Format.{
-  wordBytes,
-  wordAt,
-  wordsBytes,
-  recordLength,
-  recordBytes,
-  recordsBytes,
-  trailerLength,
-  mark,
-  trailerBytes,
-  stands,
-}
+use Rattle.splice.specs.Laws.{splice-length}
+use Rattle.book_laws.specs.Format.{wordBytes, wordAt, wordsBytes, recordLength, recordsBytes, trailerLength, mark, trailerBytes, stands}
 use Rattle.book_laws.specs.FormatLaws.{wordAt-skip, wordAt-written}
-use Rattle.book_laws.specs.Trailer.{Description, mostRecords, wrongTrailer, describeAt, describe}
-use Rattle.book_laws.specs.TrailerLaws.{onBook-on}
-use Rattle.book_laws.specs.Start.{Written, unwritten, startOf}
-use Rattle.book_laws.specs.Append.{appendAfter, appendOf}
-use Rattle.book_laws.specs.Build.{allCases, appendAll, build}
-use Rattle.book_laws.specs.RecordLaws.{first-case, recordsBytes-length, recordsBytes-append, recordBytes-length}
+use Rattle.book_laws.specs.Trailer.{mostRecords, wrongTrailer, describeAt, describe}
+use Rattle.book_laws.specs.Start.{Written}
+use Rattle.book_laws.specs.Build.{allCases}
+use Rattle.book_laws.specs.RecordLaws.{recordsBytes-length}
 
 -- The records of the cases and the trailer, and the used length of a book of n records.
 

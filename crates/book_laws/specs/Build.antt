@@ -5,8 +5,7 @@ use Prim.Native.Nat.{ℕ, zero, suc, _+_}
 use lib.Dec.{eqb}
 use lib.ListN.{length}
 use Rattle.rating.specs.Fields.{width}
-use Rattle.book_laws.specs.Format.{recordLength}
-use Rattle.book_laws.specs.FormatLaws.{below}
+use Rattle.book_laws.specs.Format.{recordLength, below}
 use Rattle.book_laws.specs.Start.{Written, startOf}
 use Rattle.book_laws.specs.Append.{appendOf}
 use Rattle.book_laws.specs.Accept.{caseAt}

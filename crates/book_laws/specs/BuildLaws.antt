@@ -3,7 +3,7 @@
 use mathlib.Core.Bool.{Bool, true, false, cond, _&&_}
 use mathlib.Core.List.{List, [], _∷_, _++_, append-assoc, append-nil}
 use mathlib.Core.Path.{_≡_, refl, sym, ap, ap₂, _∙_}
-use Prim.Native.Nat.{ℕ, suc, _+_, _-_, _*_, _≤_, _<_}
+use Prim.Native.Nat.{ℕ, _+_, _-_, _≤_}
 use native.Mathlib.Nat.{suc-ne-zero}
 use native.Mathlib.Omega.{arith}
 use lib.Dec.{eqb, ltb, leb}
@@ -13,13 +13,13 @@ use borrow.Author.Tests.{le-ltb, lt-leb, eqb-true, ltb-false, leb-false}
 use Rattle.splice.specs.Splice.{splice}
 use Rattle.splice.specs.Laws.{splice-over}
 use Rattle.rating.specs.Fields.{width}
-use Rattle.book_laws.specs.Format.{recordLength, recordBytes, recordsBytes, trailerLength, trailerBytes}
+use Rattle.book_laws.specs.Format.{recordLength, recordBytes, recordsBytes, trailerLength, trailerBytes, below}
 use Rattle.book_laws.specs.Trailer.{Description, mostRecords}
 use Rattle.book_laws.specs.TrailerLaws.{passed, onBook-on}
 use Rattle.book_laws.specs.Start.{Written, unwritten, startOf}
 use Rattle.book_laws.specs.Append.{appendAfter, appendOf}
 use Rattle.book_laws.specs.Build.{allCases, appendAll, build}
-use Rattle.book_laws.specs.FormatLaws.{both, below}
+use Rattle.book_laws.specs.FormatLaws.{both}
 use Rattle.book_laws.specs.RecordLaws.{first-case, recordsBytes-length, recordsBytes-append}
 use Rattle.book_laws.specs.BookLaws.{bookBytes, usedFor, built, Fits, trailerBytes-length, built-length, built-described}
 

@@ -3,7 +3,7 @@
 use mathlib.Core.Bool.{Bool, true, _&&_}
 use mathlib.Core.List.{List, [], _∷_, _++_}
 use Prim.Native.Nat.{ℕ, zero, suc, _+_, _*_, _/_, _%_}
-use lib.Dec.{eqb}
+use lib.Dec.{eqb, ltb}
 use lib.ListN.{getD}
 use Rattle.rating.specs.Fields.{width}
 use Rattle.rating.specs.Rate.{rateOf}
@@ -61,3 +61,8 @@ trailerBytes count = mark ++ wordsBytes (count ∷ recordLength * count ∷ reco
 unfoldable pub stands : List ℕ → List ℕ → ℕ → Bool
 stands [] b at = true
 stands (v ∷ vs) b at = eqb (getD b at 0) v && stands vs b (at + 1)
+
+-- whether each number is below n: a list of bytes where n is 256, of words where it is 2^32
+unfoldable pub below : ℕ → List ℕ → Bool
+below n [] = true
+below n (x ∷ xs) = ltb x n && below n xs

@@ -8,17 +8,12 @@ use native.Mathlib.Nat.{zero-add, suc-add, add-zero, add-assoc, div-div-eq-div-m
 use native.Mathlib.Numerals.{add-one}
 use native.Mathlib.Omega.{arith}
 use lib.Dec.{ltb}
-use lib.ListN.{length, getD, take, drop, length-append, length-drop}
+use lib.ListN.{length, getD, take, drop}
 use lib.Seq.{getD-append-add, drop-cons, drop-drop, take-add, take-suc}
 use borrow.Author.Tests.{ltb-true}
-use Rattle.book_laws.specs.Format.{wordBytes, wordAt, wordsBytes, wordsAt}
+use Rattle.book_laws.specs.Format.{below, wordBytes, wordAt, wordsBytes, wordsAt}
 
 -- Lists of words and of bytes.
-
--- whether each element is below n
-unfoldable pub below : ℕ → List ℕ → Bool
-below n [] = true
-below n (x ∷ xs) = ltb x n && below n xs
 
 pub both : (a b : Bool) → a && b ≡ true → (a ≡ true) × (b ≡ true)
 both true b e = (refl, e)

@@ -1,19 +1,17 @@
 -- A book with the note "OK" and the record of one cable, which rates 457.106 A: accept accepts it, it builds again to the same bytes, and
 -- demand 3 holds of its record. Two cases appended to a fresh book read back. So the premises of the theorems are met. Assumes nothing.
-use mathlib.Core.Bool.{true, _&&_}
+use mathlib.Core.Bool.{true}
 use mathlib.Core.List.{List, [], _∷_, _++_}
 use mathlib.Core.Path.{_≡_, refl, sym, ap, ap₂, _∙_}
-use Prim.Native.Nat.{ℕ, _+_, _*_, _-_}
+use Prim.Native.Nat.{ℕ}
 use lib.Dec.{lit<, lit≤}
-use lib.ListN.{length, replicate, take}
+use lib.ListN.{replicate, take}
 use Rattle.exact.specs.Fraction.{whole, _≤F_, _<F_}
 use Rattle.rating.specs.Exact.{exactRise, permittedOf}
 use Rattle.rating.specs.Instances.{cable, chosen, answer}
-use Rattle.book_laws.specs.Format.{recordFields, wordAt, wordBytes, wordsAt, wordsBytes, fieldsOf, trailerBytes, stands}
-use Rattle.book_laws.specs.FormatLaws.{below}
+use Rattle.book_laws.specs.Format.{wordAt, wordBytes, wordsAt, wordsBytes, fieldsOf, trailerBytes, stands, below}
 use Rattle.book_laws.specs.Trailer.{wrongTrailer, describeAt, describe}
 use Rattle.book_laws.specs.TrailerLaws.{onBook-on}
-use Rattle.book_laws.specs.Read.{readOf}
 use Rattle.book_laws.specs.Accept.{caseAt, answerAt, ratingAt, agrees, allAgree, acceptAfter, acceptOf}
 use Rattle.book_laws.specs.Build.{allCases, build, casesAt}
 use Rattle.book_laws.specs.RecordLaws.{fields-agree}

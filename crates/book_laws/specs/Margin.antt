@@ -1,6 +1,5 @@
 -- Demand 3 for books: for any bytes and used length that accept accepts, any of its records with answer 0, and all fractions between the
 -- stated ends, the exact rise at the record's rating is at most the permitted rise, and at 2 mA more it is above. Assumes nothing.
-use mathlib.Core.Bool.{true}
 use mathlib.Core.List.{List, [], _∷_, _++_}
 use mathlib.Core.Path.{_≡_, refl, sym, subst, _∙_}
 use Prim.Native.Nat.{ℕ, _+_, _*_, _<_}

@@ -1,9 +1,9 @@
 -- Demand 2: cases appended without refusal to a fresh book read back as they were, with their answers and ratings; accept finds no fault with
 -- it; the note and all bytes past the book are untouched. Assumes nothing.
-use mathlib.Core.Bool.{Bool, true, _&&_}
+use mathlib.Core.Bool.{true, _&&_}
 use mathlib.Core.List.{List, [], _∷_, _++_, append-assoc}
 use mathlib.Core.Path.{_≡_, refl, sym, ap, ap₂, subst, _∙_}
-use Prim.Native.Nat.{ℕ, zero, suc, _+_, _*_, _≤_, _<_}
+use Prim.Native.Nat.{ℕ, _+_, _*_, _≤_, _<_}
 use native.Mathlib.Nat.{add-zero}
 use native.Mathlib.Omega.{arith}
 use lib.ListN.{length, getD, take, drop, length-append}
@@ -16,8 +16,8 @@ use Rattle.book_laws.specs.FormatLaws.{wordsAt-skip}
 use Rattle.book_laws.specs.Trailer.{Description}
 use Rattle.book_laws.specs.TrailerLaws.{onBook-on}
 use Rattle.book_laws.specs.Start.{Written}
-use Rattle.book_laws.specs.Read.{Fields, readAfter, readOf}
-use Rattle.book_laws.specs.Accept.{Acceptance, agrees, allAgree, acceptAfter, acceptOf}
+use Rattle.book_laws.specs.Read.{readAfter, readOf}
+use Rattle.book_laws.specs.Accept.{agrees, allAgree, acceptAfter, acceptOf}
 use Rattle.book_laws.specs.Build.{allCases, build}
 use Rattle.book_laws.specs.RecordLaws.{first-case, recordBytes-length, record-read, records-read, fields-agree}
 use Rattle.book_laws.specs.BookLaws.{bookBytes, usedFor, built, Fits, bookBytes-length, built-length, built-described}

@@ -1,9 +1,9 @@
 -- Demand 2: an accepted book, built again from its note and its cases, has the same used length and the same bytes, and nothing is refused on
 -- the way. Assumes nothing.
 use mathlib.Core.Bool.{true, _&&_}
-use mathlib.Core.List.{List, [], _∷_, _++_, append-assoc, append-nil}
+use mathlib.Core.List.{List, [], _∷_, _++_, append-nil}
 use mathlib.Core.Path.{_≡_, refl, sym, ap, ap₂, _∙_}
-use Prim.Native.Nat.{ℕ, zero, suc, _+_, _-_, _*_, _≤_, _<_}
+use Prim.Native.Nat.{ℕ, zero, suc, _+_, _-_, _*_, _≤_}
 use native.Mathlib.Omega.{arith}
 use lib.Dec.{eqb}
 use lib.ListN.{length, getD, take, drop}
@@ -11,8 +11,8 @@ use lib.Seq.{drop-cons, drop-drop, take-add, drop-length}
 use borrow.Author.Tests.{eqb-true, eq-eqb, lt-ltb}
 use Rattle.rating.specs.Fields.{width}
 use Rattle.splice.specs.Splice.{splice}
-use Rattle.book_laws.specs.Format.{wordAt, wordsAt, wordBytes, wordsBytes, recordFields, recordLength, recordBytes, recordsBytes, trailerLength, mark, trailerBytes, stands}
-use Rattle.book_laws.specs.FormatLaws.{both, below, below-at, wordsAt-length, wordsBytes-read}
+use Rattle.book_laws.specs.Format.{wordAt, wordsAt, wordsBytes, recordFields, recordLength, recordBytes, recordsBytes, trailerLength, mark, trailerBytes, stands, below}
+use Rattle.book_laws.specs.FormatLaws.{both, below-at, wordsAt-length, wordsBytes-read}
 use Rattle.book_laws.specs.Trailer.{describe}
 use Rattle.book_laws.specs.Accept.{caseAt, agrees, allAgree, acceptOf}
 use Rattle.book_laws.specs.AcceptLaws.{Accepted, accepted}

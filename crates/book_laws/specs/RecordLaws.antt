@@ -1,10 +1,9 @@
 -- Records: their lengths, that a written record reads back as its fields, and that a record agrees where it has the fields of its case.
 -- Assumes nothing.
-use mathlib.Core.Bool.{Bool, true, false, _&&_}
+use mathlib.Core.Bool.{Bool, true, _&&_}
 use mathlib.Core.List.{List, [], _∷_, _++_, append-assoc}
 use mathlib.Core.Path.{_≡_, refl, sym, ap, ap₂, _∙_}
-use Prim.Native.Nat.{ℕ, zero, suc, _+_, _*_, _≤_, _<_}
-use native.Mathlib.Nat.{add-zero}
+use Prim.Native.Nat.{ℕ, zero, suc, _+_, _*_, _<_}
 use native.Mathlib.Omega.{arith}
 use lib.Dec.{eqb, ltb}
 use lib.ListN.{length, getD, take, drop, length-append}
@@ -13,8 +12,8 @@ use borrow.Author.Tests.{eqb-true, eq-eqb, lt-ltb}
 use Rattle.rating.specs.Fields.{width}
 use Rattle.rating.specs.Rate.{rateOf}
 use Rattle.rating.specs.Bounds.{rateOf-bounded}
-use Rattle.book_laws.specs.Format.{wordAt, wordsAt, wordsBytes, recordFields, recordLength, fieldsOf, recordBytes, recordsBytes}
-use Rattle.book_laws.specs.FormatLaws.{both, below, wordsBytes-length, wordsAt-length, wordsAt-add, wordsAt-skip, wordsAt-written}
+use Rattle.book_laws.specs.Format.{wordAt, wordsAt, wordsBytes, recordFields, recordLength, fieldsOf, recordBytes, recordsBytes, below}
+use Rattle.book_laws.specs.FormatLaws.{both, wordsBytes-length, wordsAt-length, wordsAt-add, wordsAt-skip, wordsAt-written}
 use Rattle.book_laws.specs.Accept.{caseAt, answerAt, ratingAt, agrees}
 use Rattle.book_laws.specs.Build.{allCases}
 

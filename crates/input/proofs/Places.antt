@@ -1,7 +1,7 @@
 -- The two positions of gathering stay within their buffers: the place of a line feed within the chunk's part, and the new length
 -- within the line. Assumes nothing.
 use mathlib.Core.Path.{_≡_, ap}
-use mathlib.Core.List.{List, _++_}
+use mathlib.Core.List.{List}
 use Prim.Native.Nat.{ℕ, _+_, _≤_}
 use native.Mathlib.Omega.{arith}
 use lib.ListN.{length, take, drop, length-append}

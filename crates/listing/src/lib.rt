@@ -6,7 +6,7 @@ ghost use Prim.Native.Nat.{_+_, _*_, _≤_, _<_};
 ghost use lib.ListN.{length};
 ghost use Rattle.book.specs.Answers.{acceptanceOf};
 ghost use Rattle.book_laws.specs.Accept.{acceptOf, Differs};
-ghost use Rattle.listing.specs.Listing.{recordLine, recordLines, bookLine, refusedLine, disagreesLine, listingFor, listingOf};
+ghost use Rattle.listing.specs.Listing.{recordLine, recordLines, listingFor, listingOf};
 ghost use Rattle.splice.specs.Splice.{splice};
 ghost use Rattle.text.specs.Decimal.{decimal};
 ghost use Rattle.text.specs.RoundTrip.{written};

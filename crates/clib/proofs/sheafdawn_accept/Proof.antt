@@ -1,15 +1,15 @@
 -- `clib::sheafdawn_accept` meets its contract: the count, the note's length and the record fill a slice of 3. Assumes nothing.
-use mathlib.Core.List.{List, [], _∷_, _++_}
-use mathlib.Core.Path.{_≡_, refl, sym, ap, ap₂, _∙_}
-use Prim.Native.Nat.{ℕ, _+_}
+use mathlib.Core.List.{List, [], _∷_}
+use mathlib.Core.Path.{_≡_, sym}
+use Prim.Native.Nat.{ℕ}
 use native.Mathlib.Omega.{arith}
-use lib.ListN.{length, set, getD}
+use lib.ListN.{length, getD}
 use denote.Ref.{now}
 use borrow.Author.Tests.{eq-eqb, ne-eqb}
 use Rattle.book_laws.specs.Accept.{acceptOf, Differs}
 use Rattle.book.specs.declared.accept.Acceptance.{Acceptance}
 use Rattle.book.specs.Answers.{acceptanceOf}
-use Rattle.clib.specs.Calls.{call, called, acceptCall, wrongLength}
+use Rattle.clib.specs.Calls.{call, called, acceptCall}
 use Rattle.clib.proofs.Outs.{three-places}
 use borrow.Author.Needs.{needs}
 use Rattle.clib.proofs.sheafdawn_accept.Statement.{statement}

@@ -1,13 +1,12 @@
 -- `clib::sheafdawn_append` meets its contract. Assumes nothing.
-use mathlib.Core.List.{List, [], _∷_, _++_}
-use mathlib.Core.Path.{_≡_, refl, sym, ap, ap₂, _∙_}
-use Prim.Native.Nat.{ℕ, _+_}
-use native.Mathlib.Omega.{arith}
-use lib.ListN.{length, set}
+use mathlib.Core.List.{List}
+use mathlib.Core.Path.{_≡_, sym, ap, _∙_}
+use Prim.Native.Nat.{ℕ}
+use lib.ListN.{length}
 use denote.Ref.{now}
 use borrow.Author.Tests.{eq-eqb, ne-eqb}
 use Rattle.book_laws.specs.Append.{appendOf}
-use Rattle.clib.specs.Calls.{bookCall, writtenCall, appendCall}
+use Rattle.clib.specs.Calls.{writtenCall, appendCall}
 use Rattle.clib.proofs.Outs.{one-place, written}
 use borrow.Author.Needs.{needs}
 use Rattle.clib.proofs.sheafdawn_append.Statement.{statement}

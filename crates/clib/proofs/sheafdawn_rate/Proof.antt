@@ -1,6 +1,6 @@
 -- `clib::sheafdawn_rate` meets its contract: the rating and the sheet fill a slice of 14. Assumes nothing.
 use mathlib.Core.List.{List, [], _∷_, _++_, append-nil}
-use mathlib.Core.Path.{_≡_, refl, sym, ap, ap₂, _∙_}
+use mathlib.Core.Path.{_≡_, sym, ap, _∙_}
 use Prim.Native.Nat.{ℕ, suc, _+_}
 use native.Mathlib.Omega.{arith}
 use lib.ListN.{length, set, drop}
@@ -8,7 +8,7 @@ use lib.Seq.{drop-length}
 use denote.Ref.{now}
 use borrow.Author.Tests.{eq-eqb, ne-eqb}
 use Rattle.splice.specs.Splice.{splice}
-use Rattle.rating.specs.Rate.{Answer, answerOf, rateOf}
+use Rattle.rating.specs.Rate.{answerOf, rateOf}
 use Rattle.rating.specs.declared.rate.Rated.{Rated}
 use Rattle.clib.specs.Calls.{call, called, rateCall, wrongLength}
 use borrow.Author.Needs.{needs}

@@ -1,11 +1,10 @@
 -- `clib::sheafdawn_read` meets its contract. Assumes nothing.
-use mathlib.Core.List.{List, [], _∷_, _++_}
-use mathlib.Core.Path.{_≡_, refl, sym, ap, ap₂, _∙_}
-use Prim.Native.Nat.{ℕ, _+_}
-use native.Mathlib.Omega.{arith}
-use lib.ListN.{length, set}
+use mathlib.Core.List.{List}
+use mathlib.Core.Path.{_≡_, sym}
+use Prim.Native.Nat.{ℕ}
+use lib.ListN.{length}
 use borrow.Author.Tests.{eq-eqb, ne-eqb}
-use Rattle.book_laws.specs.Read.{Fields, readOf}
+use Rattle.book_laws.specs.Read.{readOf}
 use Rattle.book.specs.declared.read.Record.{Record}
 use Rattle.book.specs.Answers.{fieldsRead}
 use Rattle.clib.specs.Calls.{call, called, readCall}

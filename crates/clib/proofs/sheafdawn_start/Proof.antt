@@ -1,15 +1,9 @@
 -- `clib::sheafdawn_start` meets its contract. Assumes nothing.
-use mathlib.Core.List.{List, [], _∷_, _++_}
-use mathlib.Core.Path.{_≡_, refl, sym, ap, ap₂, _∙_}
-use Prim.Native.Nat.{ℕ, _+_}
-use native.Mathlib.Omega.{arith}
-use lib.ListN.{length, set}
 use denote.Ref.{now}
-use borrow.Author.Tests.{eq-eqb, ne-eqb}
-use Rattle.book_laws.specs.Start.{Written, startOf}
+use borrow.Author.Tests.{ne-eqb}
+use Rattle.book_laws.specs.Start.{Written}
 use Rattle.book.specs.declared.start.Written as Code
-use Rattle.book.specs.Answers.{writtenOf}
-use Rattle.clib.specs.Calls.{bookCall, writtenCall, startCall, wrongLength}
+use Rattle.clib.specs.Calls.{writtenCall, startCall}
 use Rattle.clib.proofs.Outs.{one-place, written}
 use borrow.Author.Needs.{needs}
 use Rattle.clib.proofs.sheafdawn_start.Statement.{statement}

@@ -1,6 +1,6 @@
 -- `serve` keeps its positions within the three buffers. The invariant: they are, the waiting case's text is within `out`, and no buffer changes
 -- its length; the number of lines that are left falls.
-use Prim.Native.Nat.{_+_, _-_, _≤_}
+use Prim.Native.Nat.{_-_, _≤_}
 use mathlib.Core.Path.{_≡_}
 use lib.ListN.{length}
 use borrow.Author.Needs.{needs}

@@ -1,13 +1,13 @@
 -- `listing::list_book` meets its contract. The count of a book within 65536 bytes leaves room for its lines. Assumes nothing.
 use mathlib.Core.List.{List}
-use mathlib.Core.Path.{_≡_, sym, ap, ap₂, subst, _∙_}
-use Prim.Native.Nat.{ℕ, _+_, _*_, _≤_}
+use mathlib.Core.Path.{_≡_, sym, ap, subst, _∙_}
+use Prim.Native.Nat.{ℕ, _≤_}
 use native.Mathlib.Omega.{arith}
 use lib.ListN.{length}
 use Rattle.book.specs.declared.accept.Acceptance.{Acceptance}
 use Rattle.book.specs.Answers.{acceptanceOf}
 use Rattle.book_laws.specs.Accept as Paper
-use Rattle.book_laws.specs.Accept.{acceptOf, Differs}
+use Rattle.book_laws.specs.Accept.{acceptOf}
 use Rattle.book_laws.specs.AcceptLaws.{Counted, count-within}
 use Rattle.splice.specs.Splice.{splice}
 use Rattle.splice.specs.Laws.{splice-length}

@@ -1,5 +1,5 @@
 -- `listing::put_line` meets its contract: the words, the digits, at most 20, and the line feed are joined. Assumes nothing.
-use mathlib.Core.List.{List, [], _∷_, _++_}
+use mathlib.Core.List.{[], _∷_}
 use native.Mathlib.Omega.{arith}
 use Rattle.splice.specs.Put.{put-then}
 use Rattle.text.specs.Decimal.{decimal}

@@ -1,7 +1,7 @@
 -- `listing::put_listing` meets its contract: the first line and the records, or the refusal. Assumes nothing.
-use mathlib.Core.List.{List, [], _∷_, _++_}
+use mathlib.Core.List.{List, _++_}
 use mathlib.Core.Path.{_≡_, refl, _∙_}
-use Prim.Native.Nat.{ℕ, _+_, _≤_}
+use Prim.Native.Nat.{ℕ}
 use native.Mathlib.Nat.{zero-add}
 use native.Mathlib.Omega.{arith}
 use lib.ListN.{length}
@@ -10,7 +10,6 @@ use Rattle.book.specs.declared.accept.Acceptance.{Acceptance}
 use Rattle.book.specs.Answers.{acceptanceOf}
 use Rattle.splice.specs.Splice.{splice}
 use Rattle.splice.specs.Put.{Put, put-as, put-then}
-use Rattle.text.specs.Decimal.{decimal}
 use Rattle.listing.specs.Listing.{recordLines, bookLine, refusedLine, disagreesLine, listingFor}
 use borrow.Author.Needs.{needs}
 use Rattle.listing.proofs.put_listing.Statement.{statement}

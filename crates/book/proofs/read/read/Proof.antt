@@ -1,9 +1,8 @@
 -- `book::read::read` meets its contract: the trailer's refusals, 26, and else the fields. Assumes nothing.
 use mathlib.Core.List.{List, [], _∷_, _++_}
-use mathlib.Core.Path.{_≡_, refl, sym, ap, _∙_}
-use Prim.Native.Nat.{ℕ, _+_, _-_, _*_, _≤_, _<_}
+use mathlib.Core.Path.{_≡_, sym, _∙_}
+use Prim.Native.Nat.{ℕ, _+_, _*_, _≤_, _<_}
 use native.Mathlib.Omega.{arith}
-use lib.ListN.{length}
 use denote.Ref.{now}
 use borrow.Author.Tests.{le-leb, lt-leb}
 use Rattle.book_laws.specs.Format.{wordAt, wordsAt}

@@ -2,11 +2,10 @@
 -- many are left. Assumes nothing.
 use mathlib.Core.List.{List, [], _∷_, _++_, append-assoc}
 use mathlib.Core.Path.{_≡_, refl, sym, ap, _∙_}
-use Prim.Native.Nat.{ℕ, suc, _+_, _*_, _-_, _≤_, _<_}
-use native.Mathlib.Numerals.{add-one}
+use Prim.Native.Nat.{ℕ, _-_, _≤_}
 use native.Mathlib.Omega.{arith}
-use lib.ListN.{length, getD, take, set, length-set}
-use lib.Seq.{take-all, take-suc, take-suc-set, take-set-le}
+use lib.ListN.{length, take, set, length-set}
+use lib.Seq.{take-all, take-suc-set}
 use Rattle.splice.specs.Laws.{copy-one}
 use Rattle.book.proofs.record.fields_of.Statement.{statement}
 use Rattle.book.proofs.record.fields_of.Tie as tie

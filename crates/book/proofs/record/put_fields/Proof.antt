@@ -1,6 +1,6 @@
 -- `book::record::put_fields` meets its contract. The invariant: the first i fields stand from `at` on. The measure is how many are left.
 -- Assumes nothing.
-use mathlib.Core.List.{List, _++_}
+use mathlib.Core.List.{List}
 use mathlib.Core.Path.{_≡_, refl, sym, ap, _∙_}
 use Prim.Native.Nat.{ℕ, _+_, _*_, _-_, _≤_, _<_}
 use native.Mathlib.Omega.{arith}

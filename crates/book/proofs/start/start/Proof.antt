@@ -1,14 +1,14 @@
 -- `book::start::start` meets its contract: 24 where the note and the trailer do not fit, else the trailer stands after the note.
 -- Assumes nothing.
 use mathlib.Core.List.{List}
-use mathlib.Core.Path.{_≡_, sym, ap, _∙_}
+use mathlib.Core.Path.{_≡_, sym, _∙_}
 use Prim.Native.Nat.{ℕ, _+_, _≤_, _<_}
 use native.Mathlib.Omega.{arith}
 use lib.ListN.{length}
 use borrow.Author.Tests.{lt-ltb, le-ltb}
 use Rattle.splice.specs.Splice.{splice}
 use Rattle.book_laws.specs.Format.{trailerBytes}
-use Rattle.book_laws.specs.Start.{Written, unwritten, startOf}
+use Rattle.book_laws.specs.Start.{unwritten, startOf}
 use borrow.Author.Needs.{needs}
 use Rattle.book.proofs.start.start.Statement.{statement}
 use Rattle.book.proofs.start.start.Tie as tie

@@ -1,11 +1,11 @@
 -- `book::trailer::describe_at` meets its contract: 21 for another mark, 22 for another field, else the description. Assumes nothing.
-use mathlib.Core.Bool.{Bool, true, false, cond, not}
+use mathlib.Core.Bool.{true, false}
 use mathlib.Core.List.{List}
-use mathlib.Core.Path.{_≡_, refl, sym, ap, _∙_}
+use mathlib.Core.Path.{_≡_, sym, _∙_}
 use Prim.Native.Nat.{ℕ, _+_, _-_}
 use borrow.Author.Tests.{not-true, not-false}
 use Rattle.book_laws.specs.Format.{wordAt, mark, stands}
-use Rattle.book_laws.specs.Trailer.{Description, undescribed, wrongTrailer, describeAt}
+use Rattle.book_laws.specs.Trailer.{undescribed, wrongTrailer, describeAt}
 use Rattle.book_laws.specs.TrailerLaws.{right}
 use borrow.Author.Needs.{needs}
 use Rattle.book.proofs.trailer.describe_at.Statement.{statement}

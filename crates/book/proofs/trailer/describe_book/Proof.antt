@@ -1,5 +1,5 @@
 -- `book::trailer::describe_book` meets its contract: 20, then 21 for fewer than 16 bytes, then what the trailer says. Assumes nothing.
-use mathlib.Core.Path.{_≡_, sym, ap, _∙_}
+use mathlib.Core.Path.{sym, _∙_}
 use borrow.Author.Tests.{lt-ltb, le-ltb}
 use Rattle.book_laws.specs.Trailer.{describe}
 use borrow.Author.Needs.{needs}

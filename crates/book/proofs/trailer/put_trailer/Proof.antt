@@ -1,5 +1,5 @@
 -- `book::trailer::put_trailer` meets its contract: the mark and three words, one after another. Assumes nothing.
-use mathlib.Core.List.{List, _++_}
+use mathlib.Core.List.{List}
 use mathlib.Core.Path.{_≡_, refl}
 use Prim.Native.Nat.{ℕ, _+_, _*_, _≤_}
 use native.Mathlib.Omega.{arith}

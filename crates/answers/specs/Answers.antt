@@ -10,12 +10,13 @@ use Rattle.text.specs.RoundTrip.{written}
 unfoldable pub textOf : Answer → List ℕ
 textOf a = written (a .number ∷ a .rating ∷ a .sheet) ++ (10 ∷ [])
 
+-- "line k", and a text about it
+unfoldable pub aboutLine : ℕ → List ℕ → List ℕ
+aboutLine k text = (108 ∷ 105 ∷ 110 ∷ 101 ∷ 32 ∷ []) ++ decimal k ++ text
+
 -- "line k: unreadable" and a line feed
 unfoldable pub unreadableText : ℕ → List ℕ
-unreadableText k =
-    (108 ∷ 105 ∷ 110 ∷ 101 ∷ 32 ∷ [])
-    ++ decimal k
-    ++ (58 ∷ 32 ∷ 117 ∷ 110 ∷ 114 ∷ 101 ∷ 97 ∷ 100 ∷ 97 ∷ 98 ∷ 108 ∷ 101 ∷ 10 ∷ [])
+unreadableText k = aboutLine k (58 ∷ 32 ∷ 117 ∷ 110 ∷ 114 ∷ 101 ∷ 97 ∷ 100 ∷ 97 ∷ 98 ∷ 108 ∷ 101 ∷ 10 ∷ [])
 
 -- what is printed for line k, by what it says
 unfoldable pub printedFor : ℕ → Said → List ℕ

@@ -1,9 +1,9 @@
-// What the program `rate` prints for a line of its input. Each function writes into `out` from `at` on, and answers the place after
+// What the program `rate` prints for a line of its input, and what a program says of a line. Each function writes into `out` from `at` on, and answers the place after
 // what it wrote. A bound on that place shows that the next one has room.
 ghost use mathlib.Core.Path.{_≡_};
 ghost use Prim.Native.Nat.{_+_, _≤_};
 ghost use lib.ListN.{length};
-ghost use Rattle.answers.specs.Answers.{textOf, unreadableText, printed};
+ghost use Rattle.answers.specs.Answers.{textOf, aboutLine, unreadableText, printed};
 ghost use Rattle.rating.specs.Rate.{answerOf};
 ghost use Rattle.text.specs.RoundTrip.{spaced};
 ghost use Rattle.splice.specs.Splice.{splice};
@@ -47,6 +47,18 @@ fn put_answer(out: &mut [u8], at: usize, a: Rated) -> usize
     put_byte(out, end, b'\n')
 }
 
+// Writes what is said of a line: its number, and a text.
+pub fn put_about(out: &mut [u8], at: usize, number: u64, text: &[u8]) -> usize
+    requires { ⌜ at + 25 + length (now text) ≤ length (now out) ⌝ }
+    ensures { λ r. ⌜ (r ≡ at + length (aboutLine number (now (text .entry))))
+        × (now (out .exit) ≡ splice (now (out .entry)) at (aboutLine number (now (text .entry)))) ⌝ }
+    ensures { λ r. ⌜ r ≤ at + 25 + length (now (text .entry)) ⌝ }
+{
+    let digits = put_bytes(out, at, b"line ");
+    let rest = put_decimal(out, digits, number);
+    put_bytes(out, rest, text)
+}
+
 // Writes the line for an unreadable line.
 fn put_unreadable(out: &mut [u8], at: usize, number: u64) -> usize
     requires { ⌜ at + 512 ≤ length (now out) ⌝ }
@@ -54,9 +66,7 @@ fn put_unreadable(out: &mut [u8], at: usize, number: u64) -> usize
         × (now (out .exit) ≡ splice (now (out .entry)) at (unreadableText number)) ⌝ }
     ensures { λ r. ⌜ r ≤ at + 512 ⌝ }
 {
-    let digits = put_bytes(out, at, b"line ");
-    let rest = put_decimal(out, digits, number);
-    put_bytes(out, rest, b": unreadable\n")
+    put_about(out, at, number, b": unreadable\n")
 }
 
 // Writes what is printed for a line, given its number and its bytes without the line feed.

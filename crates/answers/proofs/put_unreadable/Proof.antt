@@ -1,55 +1,22 @@
--- `answers::put_unreadable` meets its contract: the two texts and the number between them are joined, and have room.
--- Assumes nothing.
+-- `answers::put_unreadable` meets its contract: what it says of a line has room. Assumes nothing.
 use native.Mathlib.Omega.{arith}
 use borrow.Author.Needs.{needs}
-use Rattle.splice.specs.Put.{put-then}
 use Rattle.answers.specs.Answers.{unreadableText}
-use Rattle.text.specs.Decimal.{decimal}
-use Rattle.text.specs.DecimalLaws.{count-64}
 use Rattle.answers.proofs.put_unreadable.Statement.{statement}
 use Rattle.answers.proofs.put_unreadable.Tie as tie
 
-slice-aggregate-put-bytes : tie.Need-slice-aggregate-put-bytes
-slice-aggregate-put-bytes c = search needs
+slice-aggregate-put-about : tie.Need-slice-aggregate-put-about
+slice-aggregate-put-about c = search needs
 
-put-bytes-requires : tie.Need-put-bytes-requires
-put-bytes-requires c κs = search needs
-
-put-decimal-requires : tie.Need-put-decimal-requires
-put-decimal-requires c κs = search needs
-
-slice-aggregate-put-bytes-2 : tie.Need-slice-aggregate-put-bytes-2
-slice-aggregate-put-bytes-2 c = search needs
-
-put-bytes-requires-2 : tie.Need-put-bytes-requires-2
-put-bytes-requires-2 c κs =
-    let start = c .before .before .before .before .before .before .before .before .before .before .before .before in
-    omega (arith, count-64 (start .args .number) (start .fits .number .fits))
+put-about-requires : tie.Need-put-about-requires
+put-about-requires c κs = search needs
 
 same-length : tie.Need-same-length
 same-length c = search needs
 
 returns : tie.Need-returns
 unfolding unreadableText
-returns c =
-    let third = c .before .before in
-    let second = third .before .before .before .before .before in
-    let first = second .before .before .before .before in
-    let start = first .before .before .before .before in
-    let k = start .args .number in
-    let two = put-then _ _ _ (decimal k) (omega arith) (first .put-bytes .ensures) (second .put-decimal .ensures) in (
-      put-then _ _ _ _ (omega arith) two (third .put-bytes2 .ensures),
-      omega (arith, count-64 k (start .fits .number .fits)),
-    )
+returns c = (c .before .before .put-about .ensures .0, omega arith)
 
 pub put-unreadable-spec : {M : Type 1} → statement M
-put-unreadable-spec =
-    tie.close
-    (tie.spec
-    slice-aggregate-put-bytes
-    put-bytes-requires
-    put-decimal-requires
-    slice-aggregate-put-bytes-2
-    put-bytes-requires-2
-    same-length
-    returns)
+put-unreadable-spec = tie.close (tie.spec slice-aggregate-put-about put-about-requires same-length returns)

@@ -8,8 +8,8 @@ use native.Mathlib.Omega.{arith}
 use lib.Dec.{eqb}
 use lib.ListN.{length}
 use borrow.Author.Tests.{eqb-true, eqb-false}
+use Rattle.bools.specs.Tests.{both}
 use Rattle.book_laws.specs.Format.{recordLength}
-use Rattle.book_laws.specs.FormatLaws.{both}
 use Rattle.book_laws.specs.Trailer.{mostRecords, describe}
 use Rattle.book_laws.specs.TrailerLaws.{Described, described, onBook-on, onBook-refused}
 use Rattle.book_laws.specs.Accept.{Acceptance, agrees, allAgree, unaccepted, acceptAfter, acceptOf}

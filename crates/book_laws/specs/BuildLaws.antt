@@ -10,16 +10,16 @@ use lib.Dec.{eqb, ltb, leb}
 use lib.ListN.{length, length-append}
 use lib.Seq.{append-snoc}
 use borrow.Author.Tests.{le-ltb, lt-leb, eqb-true, ltb-false, leb-false}
+use Rattle.bools.specs.Tests.{both, passed}
 use Rattle.splice.specs.Splice.{splice}
 use Rattle.splice.specs.Laws.{splice-over}
 use Rattle.rating.specs.Fields.{width}
 use Rattle.book_laws.specs.Format.{recordLength, recordBytes, recordsBytes, trailerLength, trailerBytes, below}
 use Rattle.book_laws.specs.Trailer.{Description, mostRecords}
-use Rattle.book_laws.specs.TrailerLaws.{passed, onBook-on}
+use Rattle.book_laws.specs.TrailerLaws.{onBook-on}
 use Rattle.book_laws.specs.Start.{Written, unwritten, startOf}
 use Rattle.book_laws.specs.Append.{appendAfter, appendOf}
 use Rattle.book_laws.specs.Build.{allCases, appendAll, build}
-use Rattle.book_laws.specs.FormatLaws.{both}
 use Rattle.book_laws.specs.RecordLaws.{first-case, recordsBytes-length, recordsBytes-append}
 use Rattle.book_laws.specs.BookLaws.{bookBytes, usedFor, built, Fits, trailerBytes-length, built-length, built-described}
 

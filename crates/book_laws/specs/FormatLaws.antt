@@ -1,6 +1,6 @@
 -- The laws of the bytes: lengths, fields one after another, and that writing and reading undo each other, for words of 32 bits and for
 -- bytes. Assumes nothing.
-use mathlib.Core.Bool.{Bool, true, false, _&&_, false≢true}
+use mathlib.Core.Bool.{true}
 use mathlib.Core.List.{List, [], _∷_, _++_, append-assoc, append-nil}
 use mathlib.Core.Path.{_≡_, refl, sym, ap, ap₂, _∙_}
 use Prim.Native.Nat.{ℕ, zero, suc, _+_, _*_, _/_, _%_, _≤_, _<_}
@@ -11,13 +11,10 @@ use lib.Dec.{ltb}
 use lib.ListN.{length, getD, take, drop}
 use lib.Seq.{getD-append-add, drop-cons, drop-drop, take-add, take-suc}
 use borrow.Author.Tests.{ltb-true}
+use Rattle.bools.specs.Tests.{both}
 use Rattle.book_laws.specs.Format.{below, wordBytes, wordAt, wordsBytes, wordsAt}
 
 -- Lists of words and of bytes.
-
-pub both : (a b : Bool) → a && b ≡ true → (a ≡ true) × (b ≡ true)
-both true b e = (refl, e)
-both false b e = absurd (false≢true e)
 
 pub below-at : (n : ℕ) (l : List ℕ) → 0 < n → below n l ≡ true → (i : ℕ) → getD l i 0 < n
 unfolding below

@@ -5,12 +5,12 @@ use mathlib.Core.Path.{_≡_, refl, sym, subst, _∙_}
 use Prim.Native.Nat.{ℕ, _+_, _*_, _<_}
 use lib.Dec.{eqb}
 use borrow.Author.Tests.{eqb-true, lt-leb}
+use Rattle.bools.specs.Tests.{both}
 use Rattle.exact.specs.Fraction.{whole, _≤F_, _<F_}
 use Rattle.rating.specs.Rate.{rateOf}
 use Rattle.rating.specs.Exact.{Chosen, exactRise, permittedOf}
 use Rattle.rating.specs.Margin as Case
 use Rattle.book_laws.specs.Format.{recordLength}
-use Rattle.book_laws.specs.FormatLaws.{both}
 use Rattle.book_laws.specs.Trailer.{describe}
 use Rattle.book_laws.specs.TrailerLaws.{onBook-on}
 use Rattle.book_laws.specs.Read.{readAfter, readOf}

@@ -9,10 +9,11 @@ use lib.Dec.{eqb}
 use lib.ListN.{length, getD, take, drop}
 use lib.Seq.{drop-cons, drop-drop, take-add, drop-length}
 use borrow.Author.Tests.{eqb-true, eq-eqb, lt-ltb}
+use Rattle.bools.specs.Tests.{both}
 use Rattle.rating.specs.Fields.{width}
 use Rattle.splice.specs.Splice.{splice}
 use Rattle.book_laws.specs.Format.{wordAt, wordsAt, wordsBytes, recordFields, recordLength, recordBytes, recordsBytes, trailerLength, mark, trailerBytes, stands, below}
-use Rattle.book_laws.specs.FormatLaws.{both, below-at, wordsAt-length, wordsBytes-read}
+use Rattle.book_laws.specs.FormatLaws.{below-at, wordsAt-length, wordsBytes-read}
 use Rattle.book_laws.specs.Trailer.{describe}
 use Rattle.book_laws.specs.Accept.{caseAt, agrees, allAgree, acceptOf}
 use Rattle.book_laws.specs.AcceptLaws.{Accepted, accepted}

@@ -19,9 +19,9 @@ unfoldable pub undescribed : ℕ → Description
 undescribed n = record { number = n; count = 0; first = 0 }
 
 -- 22: count over 100000, distance or length wrong, or records longer than what precedes the trailer
-unfoldable pub wrongTrailer : (before count distance recordBytes : ℕ) → Bool
-wrongTrailer before count distance recordBytes =
-    ltb mostRecords count || not (eqb distance (recordLength * count)) || not (eqb recordBytes recordLength) || ltb before distance
+unfoldable pub wrongTrailer : (before count distance size : ℕ) → Bool
+wrongTrailer before count distance size =
+    ltb mostRecords count || not (eqb distance (recordLength * count)) || not (eqb size recordLength) || ltb before distance
 
 -- the trailer stands at `at`
 unfoldable pub describeAt : List ℕ → ℕ → Description

@@ -1,26 +1,16 @@
 -- What a trailer that is not refused says: the places of the records, and the trailer's own fields. Assumes nothing.
-use mathlib.Core.Bool.{Bool, true, false, cond, not, _||_, false≢true}
+use mathlib.Core.Bool.{Bool, true, false, cond, not}
 use mathlib.Core.List.{List}
-use mathlib.Core.Path.{_≡_, refl, sym, ap, _∙_}
+use mathlib.Core.Path.{_≡_, sym, ap, _∙_}
 use Prim.Native.Nat.{ℕ, _+_, _-_, _*_, _≤_}
 use native.Mathlib.Nat.{suc-ne-zero}
 use native.Mathlib.Omega.{arith}
 use lib.Dec.{eqb, ltb, lit≤}
 use lib.ListN.{length}
 use borrow.Author.Tests.{ltb-false, eqb-true, not-false, eq-eqb, ne-eqb}
+use Rattle.bools.specs.Tests.{neither, passed}
 use Rattle.book_laws.specs.Format.{wordAt, recordLength, trailerLength, mark, stands}
 use Rattle.book_laws.specs.Trailer.{Description, mostRecords, undescribed, wrongTrailer, describeAt, describe, onBook}
-
--- an answer by a chain of tests that is no refusal: the first test was passed, and the answer is what follows
-pub passed :
-    {A : Type 0} (number : A → ℕ) (given : Bool) (refusal rest : A) → (number refusal ≡ 0 → ⊥) → number (cond given refusal rest) ≡ 0 →
-    (given ≡ false) × (cond given refusal rest ≡ rest)
-passed number true refusal rest refuses e = absurd (refuses e)
-passed number false refusal rest refuses e = (refl, refl)
-
-neither : (a b : Bool) → a || b ≡ false → (a ≡ false) × (b ≡ false)
-neither false b e = (refl, e)
-neither true b e = absurd (false≢true (sym e))
 
 -- the trailer's fields, for a trailer at `at`
 pub record Right (at count distance size : ℕ) : Type 0 where

@@ -1,13 +1,14 @@
 -- Demand 3 for a case: whichever fractions stand for pi, ln 2 and the logarithms, the exact rise at the rating is at most the permitted
 -- rise, and at 2 mA more, or 1 mA and a ten-millionth of the rating, it is above. The premise is that the case is rated. Assumes nothing.
 use mathlib.Core.Path.{_≡_, refl, sym, _∙_, ap}
-use mathlib.Core.Bool.{Bool, true, false, cond, _&&_, _||_, false≢true}
+use mathlib.Core.Bool.{Bool, true, false, cond, _&&_}
 use mathlib.Core.List.{List}
-use Prim.Native.Nat.{ℕ, suc, _+_, _*_, _^_, _≤_, _<_}
+use Prim.Native.Nat.{ℕ, _+_, _*_, _^_, _≤_, _<_}
 use native.Mathlib.Nat.{suc-ne-zero, lt-of-not-le, mul-le-mul}
 use native.Mathlib.Omega.{arith}
 use lib.Dec.{eqb}
 use borrow.Author.Tests.{ltb-false, eqb-true, eqb-false}
+use Rattle.bools.specs.Tests.{neither, not-both, passed}
 use Rattle.exact.specs.Fraction.{_over_, whole, _≤F_, _<F_}
 use Rattle.formulas.specs.Refusals.{skinRefused, eddyRefused, dielectricRefused, currentRefused}
 use Rattle.formulas.specs.Dielectric.{permittedRise, currentRise}
@@ -32,13 +33,6 @@ unfolding refused
 screened true n rest t e = (eqb-true n 0 t, refl)
 screened false n rest t e = absurd (eqb-false n 0 t e)
 
-passed :
-    (given : Bool) (n : ℕ) (rest : Answer) → cond given (refused (suc n)) rest .number ≡ 0 →
-    (given ≡ false) × (cond given (refused (suc n)) rest ≡ rest)
-unfolding refused
-passed true n rest e = absurd (suc-ne-zero n e)
-passed false n rest e = (refl, refl)
-
 record Passed (x : List ℕ) : Type 0 where
   screening : screen x ≡ 0
   skin : skinRefused (zsOf x) (zpOf x) ≡ false
@@ -48,19 +42,19 @@ record Passed (x : List ℕ) : Type 0 where
   answer : rateOf x ≡ rated x
 
 all-passed : (x : List ℕ) → rateOf x .number ≡ 0 → Passed x
-unfolding judged loaded
+unfolding judged loaded refused
 all-passed x none-given =
     let number : Answer → ℕ = λ a. a .number in
     let from-tests = sym (ap number (rateOf-is x)) ∙ none-given in
     let screening = screened (eqb (screen x) 0) (screen x) (judged x) refl from-tests in
     let after-screening = sym (ap number (screening .1)) ∙ from-tests in
-    let skin = passed (skinRefused (zsOf x) (zpOf x)) 7 _ after-screening in
+    let skin = passed number (skinRefused (zsOf x) (zpOf x)) _ _ (suc-ne-zero 7) after-screening in
     let after-skin = sym (ap number (skin .1)) ∙ after-screening in
-    let eddies = passed (eddying x && eddyRefused (bOf x) (rsOf x)) 8 _ after-skin in
+    let eddies = passed number (eddying x && eddyRefused (bOf x) (rsOf x)) _ _ (suc-ne-zero 8) after-skin in
     let after-eddies = sym (ap number (eddies .1)) ∙ after-skin in
-    let dielectric = passed (dielectricRefused (ddOf x) (riseOf x)) 9 _ after-eddies in
+    let dielectric = passed number (dielectricRefused (ddOf x) (riseOf x)) _ _ (suc-ne-zero 9) after-eddies in
     let after-dielectric = sym (ap number (dielectric .1)) ∙ after-eddies in
-    let current = passed (currentRefused (currentOf x)) 10 _ after-dielectric in
+    let current = passed number (currentRefused (currentOf x)) _ _ (suc-ne-zero 10) after-dielectric in
     record {
       screening = screening .0;
       skin = skin .0;
@@ -69,14 +63,6 @@ all-passed x none-given =
       current = current .0;
       answer = rateOf-is x ∙ screening .1 ∙ skin .1 ∙ eddies .1 ∙ dielectric .1 ∙ current .1;
     }
-
-neither : (a b : Bool) → a || b ≡ false → (a ≡ false) × (b ≡ false)
-neither false b e = (refl, e)
-neither true b e = absurd (false≢true (sym e))
-
-not-both : (a b : Bool) → a && b ≡ false → a ≡ true → b ≡ false
-not-both true b e t = e
-not-both false b e t = absurd (false≢true t)
 
 module _ {x : List ℕ} (c : Chosen x) (p : Passed x) where
   fit : Fit x

@@ -1,7 +1,7 @@
 -- What a case promises once none of refusals 1 to 7 is given: each limit and each relation as a fact, which the stages and the
 -- bounds on them take. Assumes nothing.
 use mathlib.Core.Path.{_≡_, refl, subst⁻¹}
-use mathlib.Core.Bool.{Bool, true, false, cond, not, _&&_, _||_, false≢true}
+use mathlib.Core.Bool.{Bool, true, false, cond, not, _||_, false≢true}
 use mathlib.Core.List.{List}
 use Prim.Native.Nat.{ℕ, suc, _*_, _≤_}
 use native.Mathlib.Nat.{suc-ne-zero}
@@ -9,6 +9,7 @@ use lib.Dec.{T, leb}
 use lib.IntN.{ℤ, pos, negℤ, _-ℤ_}
 use lib.Signed.{_≤ℤ_, leZ, leZ-yes}
 use borrow.Author.Tests.{leb-true}
+use Rattle.bools.specs.Tests.{both}
 use Rattle.formulas.specs.Laws.Ranges.{In}
 use Rattle.rating.specs.Fields as Field
 use Rattle.rating.specs.Screening.{within, withinZ, armoured, arrangementHeld, conductorHeld, conductorLimits, sheathLimits, armourLimits, thermalLimits, limitsHeld, strayHeld, geometryHeld, heatHeld, screen}
@@ -55,10 +56,6 @@ pub record Sound (x : List ℕ) : Type 0 where
   pub armour : armoured x ≡ true → SoundArmour x
 
 -- Tests that were passed, as facts.
-
-both : (a b : Bool) → a && b ≡ true → (a ≡ true) × (b ≡ true)
-both true b e = (refl, e)
-both false b e = absurd (false≢true e)
 
 -- in arrangement 5, where the test is not lifted
 meant : (a b : Bool) → not a || b ≡ true → a ≡ true → b ≡ true

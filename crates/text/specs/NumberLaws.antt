@@ -1,5 +1,5 @@
 -- Laws of reading digits: what `every` says of each byte, and that a number in decimal is read back as itself. Assumes nothing.
-use mathlib.Core.Bool.{Bool, true, false, _&&_, false≢true}
+use mathlib.Core.Bool.{Bool, true, false, false≢true}
 use mathlib.Core.List.{List, [], _∷_, _++_}
 use mathlib.Core.Path.{_≡_, refl, sym, ap, _∙_}
 use Prim.Native.Nat.{ℕ, zero, suc, _+_, _-_, _*_, _/_, _%_, _^_, _≤_, _<_}
@@ -7,15 +7,12 @@ use native.Mathlib.Nat.{le-of-suc-le-suc}
 use native.Mathlib.Omega.{arith}
 use borrow.Author.Tests.{le-leb, ne-eqb}
 use lib.ListN.{length, getD}
+use Rattle.bools.specs.Tests.{both}
 use Rattle.text.specs.declared.number.Reading.the-variants.{Number}
 use Rattle.text.specs.Decimal.{decimal}
 use Rattle.text.specs.DecimalLaws.{decimal-small, decimal-large, decimal-ind, count-positive}
 use Rattle.text.specs.Number.{isDigit, every, valueFrom, value, readDigits, readNumber}
 use Rattle.text.specs.Words.{isEmpty}
-
-pub both : (a b : Bool) → (a && b) ≡ true → (a ≡ true) × (b ≡ true)
-both true b e = (refl, e)
-both false b e = absurd (false≢true e)
 
 pub every-append : (p : ℕ → Bool) (s t : List ℕ) → every p s ≡ true → every p t ≡ true → every p (s ++ t) ≡ true
 unfolding every

@@ -9,11 +9,12 @@ use borrow.Author.Tests.{le-ltb, ne-eqb, not-true}
 use lib.Dec.{eqb, lit<}
 use lib.ListN.{length, getD, length-append, List·getD-append}
 use lib.Seq.{take-append-seam, drop-append-seam, take-length}
+use Rattle.bools.specs.Tests.{both}
 use Rattle.text.specs.Decimal.{decimal}
 use Rattle.text.specs.DecimalLaws.{count-positive, count-below}
 use Rattle.text.specs.Line.{aCase, before, field, fields, says, textLength, readLineOf, readLine, width}
 use Rattle.text.specs.Number.{isDigit, every}
-use Rattle.text.specs.NumberLaws.{both, every-append, every-at, every-weaker, differ, decimal-digits, first-digit, read-decimal, not-empty}
+use Rattle.text.specs.NumberLaws.{every-append, every-at, every-weaker, differ, decimal-digits, first-digit, read-decimal, not-empty}
 use Rattle.text.specs.Words.{isBlank, isInk, run, isEmpty, dropBlanks, word, dropWord}
 
 -- each number with a blank in front

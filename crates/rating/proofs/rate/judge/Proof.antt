@@ -1,10 +1,11 @@
 -- `judge` is the definition: refusals 8 and 9 are its tests, and what they leave is what `load` takes.
 use borrow.Author.Needs.{needs}
-use mathlib.Core.Path.{_∙_, sym, _≡_, refl}
-use mathlib.Core.Bool.{Bool, true, false, _&&_, _||_, true≢false, false≢true}
+use mathlib.Core.Path.{_∙_, sym, _≡_}
+use mathlib.Core.Bool.{_&&_, _||_}
 use native.Mathlib.Omega.{arith}
 use lib.Dec.{ltb}
 use borrow.Author.Tests.{ltb-false}
+use Rattle.bools.specs.Tests.{neither, not-both}
 use Rattle.formulas.specs.Refusals.{skinRefused, eddyRefused}
 use Rattle.rating.specs.Screening.{eddying}
 use Rattle.rating.specs.Sound.{sound}
@@ -14,14 +15,6 @@ use Rattle.rating.specs.Values.{zsOf, zpOf, bOf, rsOf}
 use Prim.Native.Nat.{_*_}
 use Rattle.rating.proofs.rate.judge.Statement.{statement}
 use Rattle.rating.proofs.rate.judge.Tie as tie
-
-neither : (a b : Bool) → a || b ≡ false → (a ≡ false) × (b ≡ false)
-neither true b e = absurd (true≢false e)
-neither false b e = (refl, e)
-
-not-both : (a b : Bool) → a && b ≡ false → a ≡ true → b ≡ false
-not-both true b e some = e
-not-both false b e some = absurd (false≢true some)
 
 -- the two tests of the code are those of the definition
 

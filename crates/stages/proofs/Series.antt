@@ -1,7 +1,7 @@
 -- The thirteen terms of stage 5 as a loop adds them, stated once over the rounding: what holds before each turn, and that a turn
--- keeps it. Assumes nothing.
-use mathlib.Core.Path.{_≡_, sym, ap, _∙_}
-use Prim.Native.Nat.{ℕ, suc, _+_, _-_, _*_, _/_, _^_, _≤_, _<_}
+-- keeps it; and the terms that are left once a power is 0 or 1, by which a loop may end sooner. Assumes nothing.
+use mathlib.Core.Path.{_≡_, refl, sym, ap, subst, _∙_}
+use Prim.Native.Nat.{ℕ, zero, suc, _+_, _-_, _*_, _/_, _^_, _≤_, _<_}
 use native.Mathlib.Nat.{zero-add, le-trans, lt-of-le-of-lt, div-mul-le-self, lt-div-mul-add}
 use native.Mathlib.Omega.{arith}
 use lib.Dec.{lit<, lit≤}
@@ -17,6 +17,7 @@ pub record Summed (round : ℕ → ℕ → ℕ) (first q p sum j : ℕ) : Type 0
   pub power : p ≤ 333333333334
   pub total : sum ≤ j * 666666666668
   pub passed : j ≤ 13
+  pub alive : 0 < j → 0 < p → 0 < q
 
 -- a power, or the first one, fits a limb
 pub fits : {n : ℕ} → n ≤ 333333333334 → n < 2 ^ 64
@@ -36,7 +37,13 @@ module _ {round : ℕ → ℕ → ℕ} (bounded : Bounded round) where
         power = first≤;
         total = omega arith;
         passed = omega arith;
+        alive = λ j>0. absurd (omega (arith, j>0));
       }
+
+  -- a power above 0 is not made by a ratio of 0
+  ratio-above : (p q : ℕ) → 0 < round (p * q) 1000000000000 → 0 < q
+  ratio-above p zero next>0 = absurd (omega (arith, bounded (p * 0) 0 1000000000000 (omega arith) (omega arith)))
+  ratio-above p (suc q) next>0 = omega arith
 
   -- a turn adds term j and goes on to the next power
   module _
@@ -62,6 +69,7 @@ module _ {round : ℕ → ℕ → ℕ} (bounded : Bounded round) where
           power = omega (arith, product-most p q (s .power) (s .ratio));
           total = more-total;
           passed = omega arith;
+          alive = λ j>0 next>0. ratio-above p q (subst (λ n. 0 < n) next-is next>0);
         }
 
 pub done : {round : ℕ → ℕ → ℕ} {first q p sum j : ℕ} → Summed round first q p sum j → 13 ≤ j → sum ≡ thirteenTerms round first
@@ -69,6 +77,33 @@ unfolding series
 done {round} {q = q} {p} {j = j} s h =
     let none : 13 - j ≡ 0 = omega arith in
     omega (arith, ap (λ n. series round q n j p) none)
+
+-- the terms that are left where the power is 0, rounded down, or 1, rounded up
+
+none-left : (q n j : ℕ) → series down q n j 0 ≡ 0
+unfolding series tera
+none-left q zero j = refl
+none-left q (suc n) j =
+    let term = down-only (2 * 0) (2 * j + 1) 0 (omega arith) (omega arith) in
+    let next = down-only (0 * q) 1000000000000 0 (omega arith) (omega arith) in
+    omega (arith, term, ap (λ p. series down q n (j + 1) p) next, none-left q n (j + 1))
+
+ones-left : (q n j : ℕ) → 0 < q → q ≤ 1000000000000 → 0 < j → series up q n j 1 ≡ n
+unfolding series tera
+ones-left q zero j q>0 q≤ j>0 = refl
+ones-left q (suc n) j q>0 q≤ j>0 =
+    let term = up-only (2 * 1) (2 * j + 1) 1 (omega arith) (omega arith) in
+    let next = up-only (1 * q) 1000000000000 1 (omega arith) (omega arith) in
+    omega (arith, term, ap (λ p. series up q n (j + 1) p) next, ones-left q n (j + 1) q>0 q≤ (omega arith))
+
+pub ended-down : {first q p sum j : ℕ} → Summed down first q p sum j → p ≡ 0 → sum ≡ thirteenTerms down first
+ended-down {q = q} {j = j} s zero-power =
+    omega (arith, s .whole, ap (λ p. series down q (13 - j) j p) zero-power, none-left q (13 - j) j)
+
+pub ended-up : {first q p sum j : ℕ} → Summed up first q p sum j → p ≡ 1 → 0 < j → sum + (13 - j) ≡ thirteenTerms up first
+ended-up {q = q} {j = j} s one j>0 =
+    let q>0 = s .alive j>0 (omega arith) in
+    omega (arith, s .whole, ap (λ p. series up q (13 - j) j p) one, ones-left q (13 - j) j q>0 (omega (arith, s .ratio)) j>0)
 
 -- the code's quotient is the term, rounded up or down
 

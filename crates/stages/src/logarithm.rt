@@ -27,6 +27,7 @@ fn octaves(a: u64, b: u64) -> Doubled
     Doubled { count, doubled }
 }
 
+// A power of 1 stays 1, and each term after the first is then 1.
 fn thirteen_terms_up(first: u64) -> u64
     requires { ⌜ first ≤ 333333333334 ⌝ }
     ensures { λ r. ⌜ r ≡ thirteenTerms up first ⌝ }
@@ -36,6 +37,9 @@ fn thirteen_terms_up(first: u64) -> u64
     let mut sum: u64 = 0;
     let mut j: u64 = 0;
     while j < 13 {
+        if (p == 1) & (0 < j) {
+            return sum + (13 - j);
+        }
         sum += (2 * p + 2 * j) / (2 * j + 1);
         p = mul_div_up_trillion(p, q);
         j += 1;
@@ -43,6 +47,7 @@ fn thirteen_terms_up(first: u64) -> u64
     sum
 }
 
+// A power of 0 stays 0, and adds nothing.
 fn thirteen_terms_down(first: u64) -> u64
     requires { ⌜ first ≤ 333333333334 ⌝ }
     ensures { λ r. ⌜ r ≡ thirteenTerms down first ⌝ }
@@ -52,6 +57,9 @@ fn thirteen_terms_down(first: u64) -> u64
     let mut sum: u64 = 0;
     let mut j: u64 = 0;
     while j < 13 {
+        if p == 0 {
+            return sum;
+        }
         sum += 2 * p / (2 * j + 1);
         p = mul_div_down_trillion(p, q);
         j += 1;

@@ -1,10 +1,10 @@
 -- `stages::logarithm::thirteen_terms_down` meets its contract: its loop is the one of Series.antt with every quotient rounded
--- down. Assumes nothing.
+-- down, and ends sooner where the power is 0. Assumes nothing.
 use Prim.Native.Nat.{_-_}
 use native.Mathlib.Omega.{arith}
 use Rattle.exact.specs.Rounding.{down}
 use Rattle.formulas.specs.Laws.LogRange.{down-bounded}
-use Rattle.stages.proofs.Series.{Summed, fits, product-most, begin, more-total, more, done, term-down}
+use Rattle.stages.proofs.Series.{Summed, fits, product-most, begin, more-total, more, done, ended-down, term-down}
 use Rattle.stages.proofs.logarithm.thirteen_terms_down.Statement.{statement}
 use Rattle.stages.proofs.logarithm.thirteen_terms_down.Tie as tie
 
@@ -20,6 +20,9 @@ mul-div-down-trillion-requires c κs = fits (product-most down-bounded _ _ (c .p
 loop-holds : tie.Need-loop-holds Inv-loop μ-loop
 loop-holds c = begin down-bounded (c .before .pre) (c .mul-div-down-trillion .ensures)
 
+returns : tie.Need-returns Inv-loop μ-loop
+returns c = ended-down (c .before .before .loop .inv) (c .if1 .taken)
+
 mul-sum : tie.Need-mul-sum Inv-loop μ-loop
 mul-sum c = omega arith
 
@@ -33,11 +36,11 @@ div-sum : tie.Need-div-sum Inv-loop μ-loop
 div-sum c = omega arith
 
 add-sum-2 : tie.Need-add-sum-2 Inv-loop μ-loop
-add-sum-2 c = omega (arith, more-total down-bounded (c .before .loop .inv) (c .loop-test .taken) (term-down _ _))
+add-sum-2 c = omega (arith, more-total down-bounded (c .before .before .loop .inv) (c .before .loop-test .taken) (term-down _ _))
 
 mul-div-down-trillion-requires-2 : tie.Need-mul-div-down-trillion-requires-2 Inv-loop μ-loop
 mul-div-down-trillion-requires-2 c κs =
-    let s = c .before .loop .inv in
+    let s = c .before .before .loop .inv in
     fits (product-most down-bounded _ _ (s .power) (s .ratio))
 
 add-j : tie.Need-add-j Inv-loop μ-loop
@@ -48,11 +51,11 @@ loop-less c = omega arith
 
 loop-again : tie.Need-loop-again Inv-loop μ-loop
 loop-again c =
-    more down-bounded (c .before .before .loop .inv) (c .before .loop-test .taken) (term-down _ _)
+    more down-bounded (c .before .before .before .loop .inv) (c .before .before .loop-test .taken) (term-down _ _)
     (c .mul-div-down-trillion2 .ensures)
 
-returns : tie.Need-returns Inv-loop μ-loop
-returns c = done (c .before .loop .inv) (c .loop-test .left)
+returns-2 : tie.Need-returns-2 Inv-loop μ-loop
+returns-2 c = done (c .before .loop .inv) (c .loop-test .left)
 
 pub thirteen-terms-down-spec : {M : Type 1} → statement M
 thirteen-terms-down-spec =
@@ -62,6 +65,7 @@ thirteen-terms-down-spec =
     μ-loop
     mul-div-down-trillion-requires
     loop-holds
+    returns
     mul-sum
     mul-sum-2
     add-sum
@@ -71,4 +75,4 @@ thirteen-terms-down-spec =
     add-j
     loop-less
     loop-again
-    returns)
+    returns-2)

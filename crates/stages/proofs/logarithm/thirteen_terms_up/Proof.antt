@@ -1,10 +1,13 @@
--- `stages::logarithm::thirteen_terms_up` meets its contract: its loop is the one of Series.antt with every quotient rounded up.
+-- `stages::logarithm::thirteen_terms_up` meets its contract: its loop is the one of Series.antt with every quotient rounded up,
+-- and ends sooner where the power is 1.
 -- Assumes nothing.
 use Prim.Native.Nat.{_-_}
 use native.Mathlib.Omega.{arith}
+use borrow.Author.Tests.{eqb-true, ltb-true}
+use Rattle.bools.specs.Tests.{both}
 use Rattle.exact.specs.Rounding.{up}
 use Rattle.formulas.specs.Laws.LogRange.{up-bounded}
-use Rattle.stages.proofs.Series.{Summed, fits, product-most, begin, more-total, more, done, term-up}
+use Rattle.stages.proofs.Series.{Summed, fits, product-most, begin, more-total, more, done, ended-up, term-up}
 use Rattle.stages.proofs.logarithm.thirteen_terms_up.Statement.{statement}
 use Rattle.stages.proofs.logarithm.thirteen_terms_up.Tie as tie
 
@@ -19,6 +22,17 @@ mul-div-up-trillion-requires c κs = fits (product-most up-bounded _ _ (c .pre) 
 
 loop-holds : tie.Need-loop-holds Inv-loop μ-loop
 loop-holds c = begin up-bounded (c .before .pre) (c .mul-div-up-trillion .ensures)
+
+sub-result : tie.Need-sub-result Inv-loop μ-loop
+sub-result c = omega arith
+
+add-result : tie.Need-add-result Inv-loop μ-loop
+add-result c = omega arith
+
+returns : tie.Need-returns Inv-loop μ-loop
+returns c =
+    let test = both _ _ (c .if1 .taken) in
+    ended-up (c .before .before .loop .inv) (eqb-true _ 1 (test .0)) (ltb-true 0 _ (test .1))
 
 mul-sum : tie.Need-mul-sum Inv-loop μ-loop
 mul-sum c = omega arith
@@ -39,11 +53,11 @@ div-sum : tie.Need-div-sum Inv-loop μ-loop
 div-sum c = omega arith
 
 add-sum-3 : tie.Need-add-sum-3 Inv-loop μ-loop
-add-sum-3 c = omega (arith, more-total up-bounded (c .before .loop .inv) (c .loop-test .taken) (term-up _ _))
+add-sum-3 c = omega (arith, more-total up-bounded (c .before .before .loop .inv) (c .before .loop-test .taken) (term-up _ _))
 
 mul-div-up-trillion-requires-2 : tie.Need-mul-div-up-trillion-requires-2 Inv-loop μ-loop
 mul-div-up-trillion-requires-2 c κs =
-    let s = c .before .loop .inv in
+    let s = c .before .before .loop .inv in
     fits (product-most up-bounded _ _ (s .power) (s .ratio))
 
 add-j : tie.Need-add-j Inv-loop μ-loop
@@ -54,11 +68,11 @@ loop-less c = omega arith
 
 loop-again : tie.Need-loop-again Inv-loop μ-loop
 loop-again c =
-    more up-bounded (c .before .before .loop .inv) (c .before .loop-test .taken) (term-up _ _)
+    more up-bounded (c .before .before .before .loop .inv) (c .before .before .loop-test .taken) (term-up _ _)
     (c .mul-div-up-trillion2 .ensures)
 
-returns : tie.Need-returns Inv-loop μ-loop
-returns c = done (c .before .loop .inv) (c .loop-test .left)
+returns-2 : tie.Need-returns-2 Inv-loop μ-loop
+returns-2 c = done (c .before .loop .inv) (c .loop-test .left)
 
 pub thirteen-terms-up-spec : {M : Type 1} → statement M
 thirteen-terms-up-spec =
@@ -68,6 +82,9 @@ thirteen-terms-up-spec =
     μ-loop
     mul-div-up-trillion-requires
     loop-holds
+    sub-result
+    add-result
+    returns
     mul-sum
     mul-sum-2
     add-sum
@@ -79,4 +96,4 @@ thirteen-terms-up-spec =
     add-j
     loop-less
     loop-again
-    returns)
+    returns-2)

@@ -6,9 +6,10 @@
 
 #[path = "../../crates/clib/rust/sheafdawn.rs"]
 mod sheafdawn;
+mod timing;
 
 use std::hint::black_box;
-use std::time::Instant;
+use timing::{keep, median, seconds};
 use twin::book;
 use twin::dice::Dice;
 use twin::drawn_cases::rated_case;
@@ -18,22 +19,6 @@ use twin::standard::Cable;
 const ROUNDS: usize = 11;
 const CASES: usize = 20_000;
 const RECORDS: usize = 100_000;
-
-fn seconds(work: impl FnOnce()) -> f64 {
-    let began = Instant::now();
-    work();
-    began.elapsed().as_secs_f64()
-}
-
-/// Keeps the compiler from leaving out the work that made a value.
-fn keep<T>(value: T) {
-    let _ = black_box(value);
-}
-
-fn median(mut times: Vec<f64>) -> f64 {
-    times.sort_by(f64::total_cmp);
-    times[times.len() / 2]
-}
 
 /// Both sides in turn, so that a busy machine slows both; then the line.
 fn compare(name: &str, items: usize, mut proved: impl FnMut(), mut other: impl FnMut()) {

@@ -5,6 +5,7 @@ pub mod DecimalLaws
 pub mod Examples
 pub mod Gather
 pub mod GatherLaws
+pub mod Leading
 pub mod Line
 pub mod Number
 pub mod NumberLaws

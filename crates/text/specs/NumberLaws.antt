@@ -51,7 +51,7 @@ decimal-digits =
     (λ x h. rw (decimal-small x h) (one-digit x h))
     (λ x h r. rw (decimal-large x h) (every-append isDigit _ _ r (one-digit (x % 10) (omega arith))))
 
-value-snoc : (x : ℕ) (s : List ℕ) (b : ℕ) → valueFrom x (s ++ (b ∷ [])) ≡ valueFrom x s * 10 + (b - 48)
+pub value-snoc : (x : ℕ) (s : List ℕ) (b : ℕ) → valueFrom x (s ++ (b ∷ [])) ≡ valueFrom x s * 10 + (b - 48)
 unfolding valueFrom
 value-snoc x [] b = refl
 value-snoc x (d ∷ s) b = value-snoc (x * 10 + (d - 48)) s b

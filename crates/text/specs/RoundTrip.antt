@@ -40,11 +40,11 @@ Below32 xs = (i : ℕ) → getD xs i 0 < 2 ^ 32
 
 -- ---- a word is read, and what follows it is left
 
-digit-ink : (b : ℕ) → isDigit b ≡ true → isInk b ≡ true
+pub digit-ink : (b : ℕ) → isDigit b ≡ true → isInk b ≡ true
 unfolding isInk isBlank isDigit
 digit-ink b h = simp (ne-eqb b 32 (differ isDigit b 32 h refl), ne-eqb b 9 (differ isDigit b 9 h refl))
 
-run-past : (p : ℕ → Bool) (s t : List ℕ) → every p s ≡ true → run p t ≡ 0 → run p (s ++ t) ≡ length s
+pub run-past : (p : ℕ → Bool) (s t : List ℕ) → every p s ≡ true → run p t ≡ 0 → run p (s ++ t) ≡ length s
 unfolding run every
 run-past p [] t h k = k
 run-past p (b ∷ s) t h k = let e = both (p b) (every p s) h in rw (e .0) (ap suc (run-past p s t (e .1) k))

@@ -1,16 +1,52 @@
 // A stream cut into lines: the place of a line feed in a chunk, and the part of a line that is kept.
+ghost use mathlib.Core.Bool.{true};
 ghost use mathlib.Core.Path.{_≡_};
-ghost use Prim.Native.Nat.{_+_, _-_, min};
+ghost use Prim.Native.Nat.{_+_, _-_, _≤_, min};
 ghost use lib.ListN.{drop, length};
 ghost use Rattle.text.specs.Gather.{isInLine, kept};
 ghost use Rattle.splice.specs.Splice.{splice};
 ghost use Rattle.text.specs.Words.{run};
 
+// Whether no line feed stands among the eight bytes from `i` on.
+fn eight_in_line(chunk: &[u8], i: usize) -> bool
+    requires { ⌜ i + 8 ≤ length (now chunk) ⌝ }
+    ensures { λ r. ⌜ (r ≡ true → i + run isInLine (drop i (now (chunk .entry)))
+        ≡ i + 8 + run isInLine (drop (i + 8) (now (chunk .entry)))) ⌝ }
+{
+    (chunk[i] != 10)
+        & (chunk[i + 1] != 10)
+        & (chunk[i + 2] != 10)
+        & (chunk[i + 3] != 10)
+        & (chunk[i + 4] != 10)
+        & (chunk[i + 5] != 10)
+        & (chunk[i + 6] != 10)
+        & (chunk[i + 7] != 10)
+}
+
+// A place from which on the first line feed is the one from `from` on, and less than eight bytes away, or the end is. Eight bytes
+// are compared at once, where one after another would each be a branch.
+fn near_line_feed(chunk: &[u8], from: usize) -> usize
+    ensures { λ r. ⌜ from + run isInLine (drop from (now (chunk .entry)))
+        ≡ r + run isInLine (drop r (now (chunk .entry))) ⌝ }
+{
+    let mut i = from;
+    while i < chunk.len() {
+        if chunk.len() - i < 8 {
+            return i;
+        }
+        if !eight_in_line(chunk, i) {
+            return i;
+        }
+        i += 8;
+    }
+    i
+}
+
 // The place of the first line feed from `from` on, or the end.
 pub fn line_feed(chunk: &[u8], from: usize) -> usize
     ensures { λ r. ⌜ r ≡ from + run isInLine (drop from (now (chunk .entry))) ⌝ }
 {
-    let mut i = from;
+    let mut i = near_line_feed(chunk, from);
     while i < chunk.len() {
         if chunk[i] == 10 {
             return i;

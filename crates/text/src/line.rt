@@ -1,8 +1,16 @@
 // A line read as a case.
 ghost use mathlib.Core.Path.{_≡_};
+ghost use Prim.Native.Nat.{_+_, _≤_};
+ghost use lib.ListN.{drop, length};
 ghost use Rattle.text.specs.Answer.{answer, noCase};
+ghost use Rattle.text.specs.Gather.{piece};
 ghost use Rattle.text.specs.Line.{fields, readLine, says, textLength, width};
+ghost use Rattle.text.specs.Number.{readNumber};
+ghost use Rattle.text.specs.Words.{isInk, run};
 use crate::number::Reading;
+use crate::number::leading_digits;
+use crate::number::read_number;
+use crate::words::is_past_word;
 use crate::words::skip_blanks;
 use crate::words::skip_word;
 
@@ -24,6 +32,35 @@ fn no_case(kind: u32) -> Read
     }
 }
 
+// Where a word ends, and what it says.
+struct Word {
+    to: usize,
+    said: Reading,
+}
+
+// The word at `from`. The usual word has digits alone and is passed over once; any other is passed to its end and then read.
+fn read_word(s: &[u8], from: usize) -> Word
+    requires { ⌜ from ≤ length (now s) ⌝ }
+    ensures { λ r. ⌜ (r .to ≡ from + run isInk (drop from (now (s .entry))))
+        × (r .said ≡ readNumber (piece from (r .to) (now (s .entry)))) ⌝ }
+{
+    if 8 <= s.len() - from {
+        let digits = leading_digits(s, from);
+        let to = digits.to;
+        if from < to {
+            if is_past_word(s, to) {
+                return Word {
+                    to,
+                    said: Reading::Number(digits.value as u32),
+                };
+            }
+        }
+    }
+    let end = skip_word(s, from);
+    let said = read_number(&s[from..end]);
+    Word { to: end, said }
+}
+
 // As many numbers as a case has, and nothing but blanks after them.
 fn read_fields(s: &[u8]) -> Read
     ensures { λ r. ⌜ r ≡ answer (fields width (now (s .entry))) ⌝ }
@@ -33,8 +70,9 @@ fn read_fields(s: &[u8]) -> Read
     let mut i = 0;
     while i < WIDTH {
         let from = skip_blanks(s, at);
-        let to = skip_word(s, from);
-        match crate::number::read_number(&s[from..to]) {
+        let word = read_word(s, from);
+        let said = word.said;
+        match said {
             Reading::Number(x) => {
                 fields[i] = x;
             }
@@ -42,7 +80,7 @@ fn read_fields(s: &[u8]) -> Read
                 return no_case(2);
             }
         }
-        at = to;
+        at = word.to;
         i += 1;
     }
     if skip_blanks(s, at) < s.len() {

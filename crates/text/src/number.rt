@@ -1,5 +1,8 @@
 // A word read as a number.
 ghost use mathlib.Core.Path.{_≡_};
+ghost use Prim.Native.Nat.{_+_, _≤_};
+ghost use lib.ListN.{length};
+ghost use Rattle.text.specs.Leading.{DigitsIn};
 ghost use Rattle.text.specs.Number.{readDigits, readNumber};
 
 // What a word says.
@@ -48,5 +51,36 @@ pub fn read_number(w: &[u8]) -> Reading
     match read_digits(&w[1..], 2147483648) {
         Reading::Number(x) => Reading::Number(((4294967296 - x as u64) % 4294967296) as u32),
         Reading::Nothing => Reading::Nothing,
+    }
+}
+
+// Where digits end, and their value.
+pub(crate) struct Leading {
+    pub(crate) to: usize,
+    pub(crate) value: u64,
+}
+
+// The digits from `from` on, of the eight bytes there: these fit 32 bits, so that no limit is tried on the way, and the compiler
+// writes the loop out.
+pub(crate) fn leading_digits(s: &[u8], from: usize) -> Leading
+    requires { ⌜ from + 8 ≤ length (now s) ⌝ }
+    ensures { λ r. ⌜ DigitsIn (now (s .entry)) from (r .to) (r .value) ⌝ }
+{
+    let mut value: u64 = 0;
+    let mut i: usize = 0;
+    while i < 8 {
+        let b = s[from + i];
+        if b < 48 {
+            break;
+        }
+        if 57 < b {
+            break;
+        }
+        value = value * 10 + (b - 48) as u64;
+        i += 1;
+    }
+    Leading {
+        to: from + i,
+        value,
     }
 }

@@ -1,4 +1,5 @@
 // Where a run of blanks or a word ends.
+ghost use mathlib.Core.Bool.{true};
 ghost use mathlib.Core.Path.{_≡_};
 ghost use Prim.Native.Nat.{_+_};
 ghost use lib.ListN.{drop};
@@ -37,4 +38,14 @@ pub fn skip_word(s: &[u8], at: usize) -> usize
         i += 1;
     }
     i
+}
+
+// Whether no word goes on at `at`: a blank stands there, or the line has ended.
+pub(crate) fn is_past_word(s: &[u8], at: usize) -> bool
+    ensures { λ r. ⌜ (r ≡ true → run isInk (drop at (now (s .entry))) ≡ 0) ⌝ }
+{
+    if at < s.len() {
+        return is_blank(s[at]);
+    }
+    true
 }

@@ -1,136 +1,121 @@
--- `text::decimal::put_decimal` meets its contract. The invariant: the slice with the digits of y that are left spliced in before i is
--- what the function is to leave. The measure is i.
+-- `text::decimal::put_decimal` meets its contract: the last eight digits stand after those in front of them, and so do the eight
+-- before these in a number of more than 16.
 -- Assumes nothing.
-use mathlib.Core.List.{List, [], _∷_, _++_, append-assoc, append-nil}
-use mathlib.Core.Path.{_≡_, refl, sym, ap, _∙_}
-use Prim.Native.Nat.{ℕ, suc, _+_, _-_, _/_, _%_, _≤_, _<_}
-use native.Mathlib.Nat.{add-sub-cancel-left}
+use mathlib.Core.List.{_++_}
+use mathlib.Core.Path.{_≡_, sym, ap, _∙_}
+use Prim.Native.Nat.{ℕ, _/_, _%_, _≤_}
 use native.Mathlib.Omega.{arith}
-use lib.ListN.{length, take, drop, set, length-set, take-append-drop}
-use lib.Seq.{take-set-le, drop-set-lt, drop-cons, getD-set-same, lt-length-set}
+use borrow.Author.Needs.{needs}
+use Rattle.splice.specs.Put.{put-as, put-then}
 use Rattle.text.specs.Decimal.{decimal}
-use Rattle.text.specs.DecimalLaws.{count-64, padded, decimal-padded}
-use Rattle.splice.specs.Splice.{splice}
+use Rattle.text.specs.DecimalLaws.{count-below, decimal-split, padded}
 use Rattle.text.proofs.decimal.put_decimal.Statement.{statement}
 use Rattle.text.proofs.decimal.put_decimal.Tie as tie
 
--- l, with the last digits of y spliced in from `at` up to i
-filled : List ℕ → ℕ → ℕ → ℕ → List ℕ
-filled l at i y = take at l ++ padded (i - at) y ++ drop i l
+-- the digits in front of the last eight, where they are more than eight
+front : (x : ℕ) → 10000000000000000 ≤ x
+    → decimal (x / 10000000000000000) ++ padded 8 (x / 100000000 % 100000000) ≡ decimal (x / 100000000)
+front x h =
+    let y = x / 100000000 in
+    let same : x / 10000000000000000 ≡ y / 100000000 = omega arith in
+    ap (λ (q : ℕ). decimal q ++ padded 8 (y % 100000000)) same ∙ sym (decimal-split 8 y (omega arith))
 
-abbrev Inv-loop : tie.InvT-loop
-Inv-loop out₀ at x end i₀ y₀ out i y =
-    (at ≤ i) × ((i ≤ length out) × ((length out ≡ length out₀) × (filled out at i y ≡ splice out₀ at (decimal x))))
+cast-put-to-eight : tie.Need-cast-put-to-eight
+cast-put-to-eight c = search needs
 
-abbrev μ-loop : tie.MeasureT-loop
-μ-loop out₀ at x end i₀ y₀ out i y = i
+put-to-eight-requires : tie.Need-put-to-eight-requires
+put-to-eight-requires c κs = search needs
 
-begin : (l : List ℕ) (at n x : ℕ) → n ≡ length (decimal x) → filled l at (at + n) x ≡ splice l at (decimal x)
-unfolding filled splice
-begin l at n x e =
-    ap (λ (d : List ℕ). take at l ++ d ++ drop (at + n) l)
-    (ap (λ (k : ℕ). padded k x) (add-sub-cancel-left at n ∙ e) ∙ sym (decimal-padded x))
-    ∙ ap (λ (k : ℕ). take at l ++ decimal x ++ drop (at + k) l) e
+same-length : tie.Need-same-length
+same-length c = search needs
 
--- a store at i leaves the list past i as it was
-drop-set : (l : List ℕ) (i b : ℕ) → i < length l → drop i (set l i b) ≡ b ∷ drop (suc i) l
-drop-set l i b h =
-    drop-cons (set l i b) i 0 (lt-length-set l i b h)
-    ∙ ap (λ (a : ℕ). a ∷ drop (suc i) (set l i b)) (getD-set-same l i b 0 h)
-    ∙ ap (λ (r : List ℕ). b ∷ r) (drop-set-lt (suc i) l i b (omega arith))
+returns : tie.Need-returns
+returns c = search needs
 
-regroup : (s t : List ℕ) (b : ℕ) (r : List ℕ) → s ++ t ++ b ∷ r ≡ s ++ (t ++ (b ∷ [])) ++ r
-regroup s t b r = simp append-assoc
+cast-put-to-eight-2 : tie.Need-cast-put-to-eight-2
+cast-put-to-eight-2 c = search needs
 
--- the last digit of y is stored, and a tenth of y is left
-turn : (l : List ℕ) (at i y : ℕ) → at ≤ i → i < length l
-    → filled (set l i (y % 10 + 48)) at i (y / 10) ≡ filled l at (suc i) y
-unfolding filled padded
-turn l at i y h k =
-    let b = y % 10 + 48 in
-    let m : suc i - at ≡ suc (i - at) = omega arith in
-    ap (λ (t : List ℕ). t ++ padded (i - at) (y / 10) ++ drop i (set l i b)) (take-set-le at l i b h)
-    ∙ ap (λ (r : List ℕ). take at l ++ padded (i - at) (y / 10) ++ r) (drop-set l i b k)
-    ∙ regroup (take at l) (padded (i - at) (y / 10)) b (drop (suc i) l)
-    ∙ ap (λ (n : ℕ). take at l ++ padded n y ++ drop (suc i) l) (sym m)
+put-to-eight-requires-2 : tie.Need-put-to-eight-requires-2
+put-to-eight-requires-2 c κs = search needs
 
-done : (l : List ℕ) (at i y : ℕ) → at ≤ i → i ≤ at → l ≡ filled l at i y
-unfolding filled padded
-done l at i y h k =
-    let e : i - at ≡ 0 = omega arith in
-    let same : i ≡ at = omega arith in
-    sym (ap (λ (n : ℕ). take at l ++ padded n y ++ drop i l) e
-    ∙ ap (λ (t : List ℕ). t ++ drop i l) (append-nil (take at l))
-    ∙ ap (λ (n : ℕ). take at l ++ drop n l) same
-    ∙ take-append-drop at l)
+cast-put-eight : tie.Need-cast-put-eight
+cast-put-eight c = search needs
 
-digit-count-requires : tie.Need-digit-count-requires Inv-loop μ-loop
-digit-count-requires c κs = tt
+put-eight-requires : tie.Need-put-eight-requires
+put-eight-requires c κs =
+    let x = c .before .before .before .before .before .before .before .before .args .x in
+    (omega (arith, count-below 7 (x / 100000000) (omega arith)), omega arith)
 
-add-end : tie.Need-add-end Inv-loop μ-loop
-add-end c = omega (arith, count-64 (c .before .before .args .x) (c .before .before .fits .x .fits))
+same-length-2 : tie.Need-same-length-2
+same-length-2 c = search needs
 
-loop-holds : tie.Need-loop-holds Inv-loop μ-loop
-loop-holds c =
-    let room = count-64 (c .before .before .args .x) (c .before .before .fits .x .fits) in
-    (omega arith, (omega (arith, room), (refl, begin _ _ _ _ (c .digit-count .ensures))))
+returns-2 : tie.Need-returns-2
+unfolding padded
+returns-2 c =
+    let second = c .before .before in
+    let first = second .before .before .before .before in
+    let x = first .before .before .before .before .before .args .x in
+    put-as _ _ (sym (decimal-split 8 x (omega arith)))
+    (put-then _ _ (decimal (x / 100000000)) (padded 8 (x % 100000000)) (omega arith) (first .put-to-eight2 .ensures) (second .put-eight .ensures))
 
-sub-i : tie.Need-sub-i Inv-loop μ-loop
-sub-i c = omega arith
+cast-put-to-eight-3 : tie.Need-cast-put-to-eight-3
+cast-put-to-eight-3 c = search needs
 
-cast-out : tie.Need-cast-out Inv-loop μ-loop
-cast-out c = omega arith
+put-to-eight-requires-3 : tie.Need-put-to-eight-requires-3
+put-to-eight-requires-3 c κs = search needs
 
-add-out : tie.Need-add-out Inv-loop μ-loop
-add-out c = omega arith
+cast-put-eight-2 : tie.Need-cast-put-eight-2
+cast-put-eight-2 c = search needs
 
-slice-write-out : tie.Need-slice-write-out Inv-loop μ-loop
-slice-write-out c = omega arith
+put-eight-requires-2 : tie.Need-put-eight-requires-2
+put-eight-requires-2 c κs =
+    let x = c .before .before .before .before .before .before .before .before .args .x in
+    (omega (arith, count-below 3 (x / 10000000000000000) (omega arith)), omega arith)
 
-loop-less : tie.Need-loop-less Inv-loop μ-loop
-loop-less c = omega arith
+cast-put-eight-3 : tie.Need-cast-put-eight-3
+cast-put-eight-3 c = search needs
 
-loop-again : tie.Need-loop-again Inv-loop μ-loop
-loop-again c =
-    let l = c .before .loop .out in
-    let at = c .before .before .before .before .args .at in
-    let i = c .before .loop .i in
-    let y = c .before .loop .y in
-    let back : suc (i - 1) ≡ i = omega arith in (
-      omega arith,
-      (
-        simp length-set (omega arith),
-        (
-          simp length-set (omega arith),
-          turn l at (i - 1) y (omega arith) (omega arith) ∙ ap (λ (n : ℕ). filled l at n y) back ∙ c .before .loop .inv .1 .1 .1,
-        ),
-      ),
-    )
+put-eight-requires-3 : tie.Need-put-eight-requires-3
+put-eight-requires-3 c κs =
+    let x = c .before .before .before .before .before .before .before .before .before .before .before .before .args .x in
+    (omega (arith, count-below 3 (x / 10000000000000000) (omega arith)), omega arith)
 
-same-length : tie.Need-same-length Inv-loop μ-loop
-same-length c = c .before .loop .inv .1 .1 .0
+same-length-3 : tie.Need-same-length-3
+same-length-3 c = search needs
 
-returns : tie.Need-returns Inv-loop μ-loop
-returns c =
-    let at-loop = c .before .loop in (
-      ap (λ (n : ℕ). c .before .before .before .before .args .at + n) (c .before .before .digit-count .ensures),
-      done _ _ _ (at-loop .y) (at-loop .inv .0) (c .loop-test .left) ∙ at-loop .inv .1 .1 .1,
-    )
+returns-3 : tie.Need-returns-3
+unfolding padded
+returns-3 c =
+    let third = c .before .before in
+    let second = third .before .before .before .before in
+    let first = second .before .before .before .before in
+    let x = first .before .before .before .before .before .args .x in
+    put-as _ _ (sym (decimal-split 8 x (omega arith)))
+    (put-then _ _ (decimal (x / 100000000)) (padded 8 (x % 100000000)) (omega arith)
+    (put-as _ _ (front x (omega arith))
+    (put-then _ _ (decimal (x / 10000000000000000)) (padded 8 (x / 100000000 % 100000000)) (omega arith) (first .put-to-eight3 .ensures)
+    (second .put-eight2 .ensures)))
+    (third .put-eight3 .ensures))
 
 pub put-decimal-spec : {M : Type 1} → statement M
 put-decimal-spec =
     tie.close
     (tie.spec
-    Inv-loop
-    μ-loop
-    digit-count-requires
-    add-end
-    loop-holds
-    sub-i
-    cast-out
-    add-out
-    slice-write-out
-    loop-less
-    loop-again
+    cast-put-to-eight
+    put-to-eight-requires
     same-length
-    returns)
+    returns
+    cast-put-to-eight-2
+    put-to-eight-requires-2
+    cast-put-eight
+    put-eight-requires
+    same-length-2
+    returns-2
+    cast-put-to-eight-3
+    put-to-eight-requires-3
+    cast-put-eight-2
+    put-eight-requires-2
+    cast-put-eight-3
+    put-eight-requires-3
+    same-length-3
+    returns-3)

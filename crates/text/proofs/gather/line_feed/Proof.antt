@@ -2,7 +2,7 @@
 -- measure is what is left of the chunk.
 -- Assumes nothing.
 use mathlib.Core.Bool.{not}
-use mathlib.Core.Path.{_≡_, refl, sym, ap, _∙_}
+use mathlib.Core.Path.{_≡_, sym, ap, _∙_}
 use Prim.Native.Nat.{_+_, _-_}
 use native.Mathlib.Omega.{arith}
 use borrow.Author.Tests.{eq-eqb, ne-eqb}
@@ -19,8 +19,11 @@ Inv-loop chunk from i₀ i = from + run isInLine (drop from chunk) ≡ i + run i
 abbrev μ-loop : tie.MeasureT-loop
 μ-loop chunk from i₀ i = length chunk - i
 
+near-line-feed-requires : tie.Need-near-line-feed-requires Inv-loop μ-loop
+near-line-feed-requires c κs = tt
+
 loop-holds : tie.Need-loop-holds Inv-loop μ-loop
-loop-holds c = refl
+loop-holds c = c .near-line-feed .ensures
 
 shared-slice-read-if1 : tie.Need-shared-slice-read-if1 Inv-loop μ-loop
 shared-slice-read-if1 c = c .before .loop-test .taken
@@ -49,4 +52,4 @@ returns-2 c = sym (c .before .loop .inv ∙ run-end isInLine _ _ (c .loop-test .
 pub line-feed-spec : {M : Type 1} → statement M
 line-feed-spec =
     tie.close
-    (tie.spec Inv-loop μ-loop loop-holds shared-slice-read-if1 returns add-i loop-less loop-again returns-2)
+    (tie.spec Inv-loop μ-loop near-line-feed-requires loop-holds shared-slice-read-if1 returns add-i loop-less loop-again returns-2)

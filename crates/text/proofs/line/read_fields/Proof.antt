@@ -12,6 +12,7 @@ use lib.Seq.{take-all, take-suc-set}
 use Rattle.text.specs.declared.number.Reading.{Reading}
 use Rattle.text.specs.declared.number.Reading.the-variants.{Number, Nothing}
 use Rattle.text.specs.Answer.{answer}
+use Rattle.text.specs.Gather.{piece}
 use Rattle.text.specs.Line.{aCase, unreadable, field, fields, width}
 use Rattle.text.specs.Number.{readNumber}
 use Rattle.text.specs.Runs.{run-within}
@@ -93,27 +94,11 @@ loop-holds c = record { count = omega arith; within = omega arith; room = refl; 
 skip-blanks-requires : tie.Need-skip-blanks-requires Inv-loop μ-loop
 skip-blanks-requires c κs = tt
 
-skip-word-requires : tie.Need-skip-word-requires Inv-loop μ-loop
-skip-word-requires c κs = tt
+read-word-requires : tie.Need-read-word-requires Inv-loop μ-loop
+read-word-requires c κs = rw (c .skip-blanks .ensures) (run-within isBlank _ _ (c .before .before .loop .inv .within))
 
-sub-read-number : tie.Need-sub-read-number Inv-loop μ-loop
-sub-read-number c = omega arith
-
-part-read-number-start : tie.Need-part-read-number-start Inv-loop μ-loop
-part-read-number-start c = omega arith
-
-part-read-number-end : tie.Need-part-read-number-end Inv-loop μ-loop
-part-read-number-end c =
-    let s = c .before .before .before .before .before .args .s .now in
-    rw (c .skip-word .ensures)
-    (run-within isInk s _
-    (rw (c .before .skip-blanks .ensures) (run-within isBlank s _ (c .before .before .before .loop .inv .within))))
-
-read-number-requires : tie.Need-read-number-requires Inv-loop μ-loop
-read-number-requires c κs = tt
-
-enum-known-x : tie.Need-enum-known-x Inv-loop μ-loop
-enum-known-x c = search needs
+enum-known-said : tie.Need-enum-known-said Inv-loop μ-loop
+enum-known-said c = search needs
 
 mul-fields : tie.Need-mul-fields Inv-loop μ-loop
 mul-fields c = omega arith
@@ -128,10 +113,10 @@ no-case-requires : tie.Need-no-case-requires Inv-loop μ-loop
 no-case-requires c κs = tt
 
 returns : tie.Need-returns Inv-loop μ-loop
-unfolding width answer
+unfolding width answer piece
 returns c =
-    let at-told = c .before in
-    let at-turn = at-told .before .before .before .before .before .before in
+    let word = c .before .before .before in
+    let at-turn = word .before .before in
     c .no-case .ensures
     ∙ ap answer
     (bad
@@ -140,10 +125,10 @@ returns c =
     _
     _
     _
-    (at-told .before .before .before .before .before .skip-blanks .ensures)
-    (at-told .before .before .before .before .skip-word .ensures)
-    (at-told .before .before .read-number .ensures)
-    (at-told .enum-told .given .1))
+    (word .before .skip-blanks .ensures)
+    (word .read-word .ensures .0)
+    (word .read-word .ensures .1)
+    (c .before .enum-told .given .1))
 
 add-i : tie.Need-add-i Inv-loop μ-loop
 add-i c = omega arith
@@ -153,21 +138,21 @@ unfolding width
 loop-less c = omega arith
 
 loop-again : tie.Need-loop-again Inv-loop μ-loop
-unfolding width
+unfolding width piece
 loop-again c =
-    let at-read = c .before .before .before in
-    let at-turn = at-read .before .before .before .before in
+    let word = c .before .before .before in
+    let at-turn = word .before .before in
     next
     (at-turn .before .loop .inv)
     (more at-turn)
     _
     _
     _
-    (at-read .before .before .before .skip-blanks .ensures)
-    (at-read .before .before .skip-word .ensures)
-    (at-read .read-number .ensures)
+    (word .before .skip-blanks .ensures)
+    (word .read-word .ensures .0)
+    (word .read-word .ensures .1)
     _
-    (c .before .x .given .1)
+    (c .before .said .given .1)
 
 skip-blanks-requires-2 : tie.Need-skip-blanks-requires-2 Inv-loop μ-loop
 skip-blanks-requires-2 c κs = tt
@@ -197,12 +182,8 @@ read-fields-spec =
     μ-loop
     loop-holds
     skip-blanks-requires
-    skip-word-requires
-    sub-read-number
-    part-read-number-start
-    part-read-number-end
-    read-number-requires
-    enum-known-x
+    read-word-requires
+    enum-known-said
     mul-fields
     array-write-fields
     enum-told

@@ -1,0 +1,110 @@
+-- `text::gather::eight_in_line` meets its contract: each test that holds takes the run on by one byte.
+-- Assumes nothing.
+use mathlib.Core.Bool.{Bool, true, _&&_}
+use mathlib.Core.List.{List}
+use mathlib.Core.Path.{_≡_, ap, _∙_}
+use Prim.Native.Nat.{ℕ, _+_, _<_}
+use native.Mathlib.Nat.{add-assoc}
+use native.Mathlib.Omega.{arith}
+use borrow.Author.Needs.{needs}
+use lib.ListN.{length, getD, drop}
+use Rattle.text.specs.Gather.{isInLine}
+use Rattle.bools.specs.Tests.{both}
+use Rattle.text.specs.Runs.{run-more}
+use Rattle.text.specs.Words.{run}
+use Rattle.text.proofs.gather.eight_in_line.Statement.{statement}
+use Rattle.text.proofs.gather.eight_in_line.Tie as tie
+
+-- the run from i on goes past the next n bytes
+Past : List ℕ → ℕ → ℕ → Type 0
+Past s i n = i + run isInLine (drop i s) ≡ i + n + run isInLine (drop (i + n) s)
+
+-- and past one more, where the tests of n bytes and that of the next all hold
+and-one : (s : List ℕ) (i n : ℕ) (tests : Bool) → i + n < length s → (tests ≡ true → Past s i n)
+    → (tests && isInLine (getD s (i + n) 0)) ≡ true → Past s i (n + 1)
+unfolding Past
+and-one s i n tests h past e =
+    let t = both tests (isInLine (getD s (i + n) 0)) e in
+    past (t .0)
+    ∙ run-more isInLine s (i + n) h (t .1)
+    ∙ ap (λ (k : ℕ). k + run isInLine (drop k s)) (add-assoc i n 1)
+
+shared-slice-read-result : tie.Need-shared-slice-read-result
+shared-slice-read-result c = search needs
+
+add-result : tie.Need-add-result
+add-result c = search needs
+
+shared-slice-read-result-2 : tie.Need-shared-slice-read-result-2
+shared-slice-read-result-2 c = search needs
+
+add-result-2 : tie.Need-add-result-2
+add-result-2 c = search needs
+
+shared-slice-read-result-3 : tie.Need-shared-slice-read-result-3
+shared-slice-read-result-3 c = search needs
+
+add-result-3 : tie.Need-add-result-3
+add-result-3 c = search needs
+
+shared-slice-read-result-4 : tie.Need-shared-slice-read-result-4
+shared-slice-read-result-4 c = search needs
+
+add-result-4 : tie.Need-add-result-4
+add-result-4 c = search needs
+
+shared-slice-read-result-5 : tie.Need-shared-slice-read-result-5
+shared-slice-read-result-5 c = search needs
+
+add-result-5 : tie.Need-add-result-5
+add-result-5 c = search needs
+
+shared-slice-read-result-6 : tie.Need-shared-slice-read-result-6
+shared-slice-read-result-6 c = search needs
+
+add-result-6 : tie.Need-add-result-6
+add-result-6 c = search needs
+
+shared-slice-read-result-7 : tie.Need-shared-slice-read-result-7
+shared-slice-read-result-7 c = search needs
+
+add-result-7 : tie.Need-add-result-7
+add-result-7 c = search needs
+
+shared-slice-read-result-8 : tie.Need-shared-slice-read-result-8
+shared-slice-read-result-8 c = search needs
+
+returns : tie.Need-returns
+unfolding Past isInLine
+returns c =
+    let start = c .before .before .before .before .before .before .before .before in
+    let s = start .args .chunk .now in
+    let i = start .args .i in
+    and-one s i 7 _ (omega arith)
+    (and-one s i 6 _ (omega arith)
+    (and-one s i 5 _ (omega arith)
+    (and-one s i 4 _ (omega arith)
+    (and-one s i 3 _ (omega arith)
+    (and-one s i 2 _ (omega arith)
+    (and-one s i 1 _ (omega arith) (run-more isInLine s i (omega arith))))))))
+
+pub eight-in-line-spec : {M : Type 1} → statement M
+eight-in-line-spec =
+    tie.close
+    (tie.spec
+    shared-slice-read-result
+    add-result
+    shared-slice-read-result-2
+    add-result-2
+    shared-slice-read-result-3
+    add-result-3
+    shared-slice-read-result-4
+    add-result-4
+    shared-slice-read-result-5
+    add-result-5
+    shared-slice-read-result-6
+    add-result-6
+    shared-slice-read-result-7
+    add-result-7
+    shared-slice-read-result-8
+    returns)

@@ -1,0 +1,61 @@
+-- `text::gather::near_line_feed` meets its contract. The invariant: the run from i on ends where the run from `from` on does. The
+-- measure is what is left of the chunk.
+-- Assumes nothing.
+use mathlib.Core.Path.{_≡_, refl, _∙_}
+use Prim.Native.Nat.{_+_, _-_}
+use native.Mathlib.Omega.{arith}
+use borrow.Author.Tests.{not-false}
+use lib.ListN.{length, drop}
+use Rattle.text.specs.Gather.{isInLine}
+use Rattle.text.specs.Words.{run}
+use Rattle.text.proofs.gather.near_line_feed.Statement.{statement}
+use Rattle.text.proofs.gather.near_line_feed.Tie as tie
+
+abbrev Inv-loop : tie.InvT-loop
+Inv-loop chunk from i₀ i = from + run isInLine (drop from chunk) ≡ i + run isInLine (drop i chunk)
+
+abbrev μ-loop : tie.MeasureT-loop
+μ-loop chunk from i₀ i = length chunk - i
+
+loop-holds : tie.Need-loop-holds Inv-loop μ-loop
+loop-holds c = refl
+
+sub-if1 : tie.Need-sub-if1 Inv-loop μ-loop
+sub-if1 c = omega arith
+
+returns : tie.Need-returns Inv-loop μ-loop
+returns c = c .before .before .loop .inv
+
+eight-in-line-requires : tie.Need-eight-in-line-requires Inv-loop μ-loop
+eight-in-line-requires c κs = omega arith
+
+returns-2 : tie.Need-returns-2 Inv-loop μ-loop
+returns-2 c = c .before .before .before .before .loop .inv
+
+add-i : tie.Need-add-i Inv-loop μ-loop
+add-i c = omega arith
+
+loop-less : tie.Need-loop-less Inv-loop μ-loop
+loop-less c = omega arith
+
+loop-again : tie.Need-loop-again Inv-loop μ-loop
+loop-again c = c .before .before .before .before .loop .inv ∙ c .before .eight-in-line .ensures (not-false _ (c .if2 .left))
+
+returns-3 : tie.Need-returns-3 Inv-loop μ-loop
+returns-3 c = c .before .loop .inv
+
+pub near-line-feed-spec : {M : Type 1} → statement M
+near-line-feed-spec =
+    tie.close
+    (tie.spec
+    Inv-loop
+    μ-loop
+    loop-holds
+    sub-if1
+    returns
+    eight-in-line-requires
+    returns-2
+    add-i
+    loop-less
+    loop-again
+    returns-3)

@@ -1,0 +1,63 @@
+-- `text::line::read_word` meets its contract: at most eight digits after which no word goes on are the word, and any other word is
+-- read from its start to its end.
+-- Assumes nothing.
+use borrow.Author.Needs.{needs}
+use Rattle.text.specs.Gather.{piece}
+use Rattle.text.specs.Leading.{word-ends, word-says}
+use Rattle.text.specs.Runs.{run-within}
+use Rattle.text.specs.Words.{isInk}
+use Rattle.text.proofs.line.read_word.Statement.{statement}
+use Rattle.text.proofs.line.read_word.Tie as tie
+
+sub-if1 : tie.Need-sub-if1
+sub-if1 c = search needs
+
+leading-digits-requires : tie.Need-leading-digits-requires
+leading-digits-requires c κs = search needs
+
+is-past-word-requires : tie.Need-is-past-word-requires
+is-past-word-requires c κs = search needs
+
+cast-t12 : tie.Need-cast-t12
+cast-t12 c = search needs
+
+returns : tie.Need-returns
+returns c =
+    let past = c .before .before .is-past-word .ensures (c .before .if3 .taken) in
+    let digits = c .before .before .before .before .leading-digits .ensures in
+    (word-ends _ _ _ _ digits past, word-says _ _ _ _ digits (c .before .before .before .if2 .taken))
+
+skip-word-requires : tie.Need-skip-word-requires
+skip-word-requires c κs = search needs
+
+sub-read-number : tie.Need-sub-read-number
+sub-read-number c = search needs
+
+part-read-number-start : tie.Need-part-read-number-start
+part-read-number-start c = search needs
+
+part-read-number-end : tie.Need-part-read-number-end
+part-read-number-end c = rw (c .skip-word .ensures) (run-within isInk _ _ (c .before .before .before .pre))
+
+read-number-requires : tie.Need-read-number-requires
+read-number-requires c κs = search needs
+
+returns-2 : tie.Need-returns-2
+unfolding piece
+returns-2 c = (c .before .before .skip-word .ensures, c .read-number .ensures)
+
+pub read-word-spec : {M : Type 1} → statement M
+read-word-spec =
+    tie.close
+    (tie.spec
+    sub-if1
+    leading-digits-requires
+    is-past-word-requires
+    cast-t12
+    returns
+    skip-word-requires
+    sub-read-number
+    part-read-number-start
+    part-read-number-end
+    read-number-requires
+    returns-2)

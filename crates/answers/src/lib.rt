@@ -5,14 +5,14 @@ ghost use Prim.Native.Nat.{_+_, _≤_};
 ghost use lib.ListN.{length};
 ghost use Rattle.answers.specs.Answers.{textOf, aboutLine, unreadableText, printed};
 ghost use Rattle.rating.specs.Rate.{answerOf};
-ghost use Rattle.text.specs.RoundTrip.{spaced};
+ghost use Rattle.decimals.specs.Decimal.{spaced};
 ghost use Rattle.splice.specs.Splice.{splice};
+use decimals::put_byte;
+use decimals::put_decimal;
+use decimals::put_number;
 use rating::rate::Rated;
 use rating::rate::rate;
-use text::decimal::put_byte;
-use text::decimal::put_bytes;
-use text::decimal::put_decimal;
-use text::decimal::put_number;
+use text::bytes::put_bytes;
 use text::line::read_line;
 
 // Room for what is printed for any line.

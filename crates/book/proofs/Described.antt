@@ -4,8 +4,8 @@ use mathlib.Core.Path.{_≡_, sym, ap, subst, _∙_}
 use Prim.Native.Nat.{ℕ, _+_, _*_, _≤_, _<_}
 use native.Mathlib.Omega.{arith}
 use lib.ListN.{length}
-use Rattle.book.specs.declared.trailer.Description as Code
-use Rattle.book.specs.Answers.{descriptionOf}
+use Rattle.book_bytes.specs.declared.trailer.Description as Code
+use Rattle.book_bytes.specs.Answers.{descriptionOf}
 use Rattle.book_laws.specs.Trailer.{Description, describe}
 use Rattle.book_laws.specs.TrailerLaws.{Described, described}
 

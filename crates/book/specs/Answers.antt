@@ -1,17 +1,12 @@
 -- What the operations return, as document 01's answers in `book_laws`. Assumes nothing.
 use mathlib.Core.List.{List}
 use Prim.Native.Nat.{ℕ}
-use Rattle.book.specs.declared.trailer.Description as Code
 use Rattle.book.specs.declared.start.Written as CodeWritten
 use Rattle.book.specs.declared.read.Record as CodeRecord
 use Rattle.book.specs.declared.accept.Acceptance as CodeAcceptance
-use Rattle.book_laws.specs.Trailer.{Description}
 use Rattle.book_laws.specs.Start.{Written}
 use Rattle.book_laws.specs.Read.{Fields}
 use Rattle.book_laws.specs.Accept.{Acceptance}
-
-abbrev pub descriptionOf : Code.Description → Description
-descriptionOf r = record { number = r .number; count = r .count; first = r .first }
 
 -- with every byte of the buffer afterwards
 abbrev pub writtenOf : CodeWritten.Written → List ℕ → Written

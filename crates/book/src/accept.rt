@@ -3,8 +3,8 @@ ghost use mathlib.Core.Path.{_≡_};
 ghost use Rattle.book_laws.specs.Accept;
 ghost use Rattle.book_laws.specs.Accept.{acceptOf, Differs};
 ghost use Rattle.book.specs.Answers.{acceptanceOf};
-use super::record::record_agrees;
-use super::trailer::describe_book;
+use book_bytes::record::record_agrees;
+use book_bytes::trailer::describe_book;
 
 // 0 or the refusal's number, the count, the note's length, and the record that 23 names, from 1.
 pub struct Acceptance {

@@ -9,12 +9,12 @@ ghost use Rattle.book_laws.specs.Append.{appendOf};
 ghost use Rattle.book_laws.specs.Format.{recordBytes, trailerBytes};
 ghost use Rattle.book.specs.Answers.{writtenOf};
 ghost use Rattle.splice.specs.Splice.{splice};
-use super::record::fields_of;
-use super::record::put_fields;
 use super::start::Written;
 use super::start::unwritten;
-use super::trailer::describe_book;
-use super::trailer::put_trailer;
+use book_bytes::record::fields_of;
+use book_bytes::record::put_fields;
+use book_bytes::trailer::describe_book;
+use book_bytes::trailer::put_trailer;
 use rating::rate::rate;
 
 // Writes the record of a case at `at`, and the trailer of a book of `count` records after it.

@@ -3,10 +3,10 @@ ghost use mathlib.Core.Path.{_≡_};
 ghost use Rattle.book_laws.specs.Read;
 ghost use Rattle.book_laws.specs.Read.{readOf};
 ghost use Rattle.book.specs.Answers.{fieldsRead};
-use super::field::word_at;
-use super::record::case_at;
-use super::record::fields_of;
-use super::trailer::describe_book;
+use book_bytes::field::word_at;
+use book_bytes::record::case_at;
+use book_bytes::record::fields_of;
+use book_bytes::trailer::describe_book;
 
 // 0 or the refusal's number; and the 26 inputs, the answer and the rating.
 pub struct Record {

@@ -5,7 +5,7 @@ ghost use Prim.Native.Nat.{ℕ};
 ghost use Rattle.book_laws.specs.Start;
 ghost use Rattle.book_laws.specs.Start.{startOf};
 ghost use Rattle.book.specs.Answers.{writtenOf};
-use super::trailer::put_trailer;
+use book_bytes::trailer::put_trailer;
 
 // What start and append answer: 0 or the refusal's number, and the new used length.
 pub struct Written {

@@ -8,15 +8,15 @@ ghost use Rattle.book.specs.Answers.{acceptanceOf};
 ghost use Rattle.book_laws.specs.Accept.{acceptOf, Differs};
 ghost use Rattle.listing.specs.Listing.{recordLine, recordLines, listingFor, listingOf};
 ghost use Rattle.splice.specs.Splice.{splice};
-ghost use Rattle.text.specs.Decimal.{decimal};
-ghost use Rattle.text.specs.RoundTrip.{written};
+ghost use Rattle.decimals.specs.Decimal.{decimal};
+ghost use Rattle.decimals.specs.Decimal.{written};
 use book::accept::Acceptance;
 use book::accept::accept;
 use book::read::read;
-use text::decimal::put_byte;
-use text::decimal::put_bytes;
-use text::decimal::put_decimal;
-use text::decimal::put_number;
+use decimals::put_byte;
+use decimals::put_decimal;
+use decimals::put_number;
+use text::bytes::put_bytes;
 
 // A word or two, a number and a line feed.
 fn put_line(out: &mut [u8], at: usize, words: &[u8], number: u64) -> usize

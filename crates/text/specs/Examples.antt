@@ -2,7 +2,7 @@
 use mathlib.Core.List.{[], _∷_}
 use mathlib.Core.Path.{_≡_, refl}
 use Rattle.text.specs.declared.number.Reading.the-variants.{Number, Nothing}
-use Rattle.text.specs.Decimal.{digits, decimal}
+use Rattle.decimals.specs.Decimal.{digits, decimal}
 use Rattle.text.specs.Line.{passedOver, aCase, unreadable, before, field, fields, says, textLength, readLineOf}
 use Rattle.text.specs.Number.{isDigit, every, valueFrom, value, readDigits, negated, readNumber}
 use Rattle.text.specs.Words.{isBlank, isInk, run, isEmpty, dropBlanks, word, dropWord}

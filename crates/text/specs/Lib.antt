@@ -1,7 +1,5 @@
 pub mod Answer
 pub mod CaseLaws
-pub mod Decimal
-pub mod DecimalLaws
 pub mod Examples
 pub mod Gather
 pub mod GatherLaws

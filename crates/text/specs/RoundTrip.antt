@@ -1,7 +1,7 @@
 -- A line that writes numbers in decimal, with one blank between them, is read back as those numbers. Assumes nothing.
 use mathlib.Core.Bool.{Bool, true, _||_}
-use mathlib.Core.List.{List, [], _∷_, _++_, append-assoc}
-use mathlib.Core.Path.{_≡_, refl, sym, ap, subst, _∙_}
+use mathlib.Core.List.{List, [], _∷_, _++_}
+use mathlib.Core.Path.{_≡_, refl, ap, subst, _∙_}
 use Prim.Native.Nat.{ℕ, zero, suc, _-_, _*_, _^_, _≤_, _<_}
 use native.Mathlib.Nat.{lt-trans}
 use native.Mathlib.Omega.{arith}
@@ -10,29 +10,12 @@ use lib.Dec.{eqb, lit<}
 use lib.ListN.{length, getD, length-append, List·getD-append}
 use lib.Seq.{take-append-seam, drop-append-seam, take-length}
 use Rattle.bools.specs.Tests.{both}
-use Rattle.text.specs.Decimal.{decimal}
-use Rattle.text.specs.DecimalLaws.{count-positive, count-below}
+use Rattle.decimals.specs.Decimal.{decimal, spaced, written}
+use Rattle.decimals.specs.DecimalLaws.{count-positive, count-below}
 use Rattle.text.specs.Line.{aCase, before, field, fields, says, textLength, readLineOf, readLine, width}
 use Rattle.text.specs.Number.{isDigit, every}
 use Rattle.text.specs.NumberLaws.{every-append, every-at, every-weaker, differ, decimal-digits, first-digit, read-decimal, not-empty}
 use Rattle.text.specs.Words.{isBlank, isInk, run, isEmpty, dropBlanks, word, dropWord}
-
--- each number with a blank in front
-unfoldable pub spaced : List ℕ → List ℕ
-spaced [] = []
-spaced (x ∷ xs) = 32 ∷ (decimal x ++ spaced xs)
-
--- the line
-unfoldable pub written : List ℕ → List ℕ
-written [] = []
-written (x ∷ xs) = decimal x ++ spaced xs
-
-pub spaced-append : (xs ys : List ℕ) → spaced (xs ++ ys) ≡ spaced xs ++ spaced ys
-unfolding spaced
-spaced-append [] ys = refl
-spaced-append (x ∷ xs) ys =
-    ap (λ (t : List ℕ). 32 ∷ (decimal x ++ t)) (spaced-append xs ys)
-    ∙ ap (λ (t : List ℕ). 32 ∷ t) (sym (append-assoc (decimal x) (spaced xs) (spaced ys)))
 
 -- every number is below 2^32
 unfoldable pub Below32 : List ℕ → Type 0

@@ -1,6 +1,6 @@
 // What a line of text says: decimal numbers written, words read as numbers, a line read as a case, and a stream cut into
 // lines. The meaning stands in specs/; the code has to match it.
-pub mod decimal;
+pub mod bytes;
 pub mod gather;
 pub mod line;
 pub mod number;

@@ -7,8 +7,8 @@ use native.Mathlib.Nat.{pow-suc, one-le-pow, mod-lt}
 use native.Mathlib.Omega.{arith}
 use lib.Dec.{lit<}
 use lib.ListN.{length, length-append}
-use Rattle.text.specs.Decimal.{decimal}
-use Rattle.text.specs.DecimalLaws.{padded, decimal-small, decimal-large}
+use Rattle.decimals.specs.Decimal.{decimal}
+use Rattle.decimals.specs.DecimalLaws.{padded, decimal-small, decimal-large}
 use Rattle.splice.specs.Splice.{splice}
 use Rattle.worksheet.specs.Fixed.{fixed}
 use Rattle.splice.specs.Laws.{splice-after, splice-again}

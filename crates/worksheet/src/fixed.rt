@@ -7,8 +7,8 @@ ghost use mir.Syntax.{w32};
 ghost use mir.Val.{toZ};
 ghost use Rattle.splice.specs.Splice.{splice};
 ghost use Rattle.worksheet.specs.Fixed.{fixed, number, signed};
-use text::decimal::put_byte;
-use text::decimal::put_decimal;
+use decimals::put_byte;
+use decimals::put_decimal;
 
 // A number below zero or not, by its size.
 pub struct Value {

@@ -4,8 +4,8 @@ use native.Mathlib.Omega.{arith}
 use borrow.Author.Needs.{needs}
 use Rattle.splice.specs.Put.{put-then}
 use Rattle.answers.specs.Answers.{aboutLine}
-use Rattle.text.specs.Decimal.{decimal}
-use Rattle.text.specs.DecimalLaws.{count-64}
+use Rattle.decimals.specs.Decimal.{decimal}
+use Rattle.decimals.specs.DecimalLaws.{count-64}
 use Rattle.answers.proofs.put_about.Statement.{statement}
 use Rattle.answers.proofs.put_about.Tie as tie
 

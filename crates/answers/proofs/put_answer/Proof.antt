@@ -7,9 +7,10 @@ use native.Mathlib.Omega.{arith}
 use borrow.Author.Needs.{needs}
 use Rattle.splice.specs.Put.{put-as, put-then}
 use Rattle.answers.specs.Answers.{textOf}
-use Rattle.text.specs.Decimal.{decimal}
-use Rattle.text.specs.DecimalLaws.{count-64}
-use Rattle.text.specs.RoundTrip.{spaced, written, spaced-append}
+use Rattle.decimals.specs.Decimal.{decimal}
+use Rattle.decimals.specs.DecimalLaws.{count-64}
+use Rattle.decimals.specs.Decimal.{spaced, written}
+use Rattle.decimals.specs.DecimalLaws.{spaced-append}
 use Rattle.answers.proofs.put_answer.Statement.{statement}
 use Rattle.answers.proofs.put_answer.Tie as tie
 

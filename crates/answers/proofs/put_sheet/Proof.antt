@@ -9,7 +9,8 @@ use native.Mathlib.Omega.{arith}
 use lib.ListN.{length, getD, take}
 use lib.Seq.{take-suc, take-all}
 use Rattle.splice.specs.Put.{Put, put-as, put-nothing, put-then}
-use Rattle.text.specs.RoundTrip.{spaced, spaced-append}
+use Rattle.decimals.specs.Decimal.{spaced}
+use Rattle.decimals.specs.DecimalLaws.{spaced-append}
 use Rattle.answers.proofs.put_sheet.Statement.{statement}
 use Rattle.answers.proofs.put_sheet.Tie as tie
 

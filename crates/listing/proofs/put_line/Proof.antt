@@ -2,8 +2,8 @@
 use mathlib.Core.List.{[], _∷_}
 use native.Mathlib.Omega.{arith}
 use Rattle.splice.specs.Put.{put-then}
-use Rattle.text.specs.Decimal.{decimal}
-use Rattle.text.specs.DecimalLaws.{count-64}
+use Rattle.decimals.specs.Decimal.{decimal}
+use Rattle.decimals.specs.DecimalLaws.{count-64}
 use borrow.Author.Needs.{needs}
 use Rattle.listing.proofs.put_line.Statement.{statement}
 use Rattle.listing.proofs.put_line.Tie as tie

@@ -7,7 +7,7 @@ use Rattle.book.specs.declared.read.Record.{Record}
 use Rattle.book.specs.Answers.{fieldsRead}
 use Rattle.book_laws.specs.Read.{Fields, readOf}
 use Rattle.splice.specs.Put.{put-as}
-use Rattle.text.specs.RoundTrip.{written}
+use Rattle.decimals.specs.Decimal.{written}
 use Rattle.listing.specs.Listing.{recordLine}
 use borrow.Author.Needs.{needs}
 use Rattle.listing.proofs.put_record.Statement.{statement}

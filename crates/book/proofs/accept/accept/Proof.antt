@@ -12,9 +12,10 @@ use Rattle.book_laws.specs.Trailer.{Description, describe}
 use Rattle.book_laws.specs.TrailerLaws.{describe-most, onBook-on, onBook-refused}
 use Rattle.book_laws.specs.Accept.{Acceptance, agrees, allAgree, unaccepted, acceptAfter, acceptOf, Differs}
 use Rattle.book_laws.specs.AcceptLaws.{allAgree-on, allAgree-stop}
-use Rattle.book.specs.declared.trailer.Description as Code
+use Rattle.book_bytes.specs.declared.trailer.Description as Code
 use Rattle.book.specs.declared.accept.Acceptance as CodeAcceptance
-use Rattle.book.specs.Answers.{descriptionOf, acceptanceOf}
+use Rattle.book_bytes.specs.Answers.{descriptionOf}
+use Rattle.book.specs.Answers.{acceptanceOf}
 use Rattle.book.proofs.Described.{inside}
 use Rattle.book.proofs.accept.accept.Statement.{statement}
 use Rattle.book.proofs.accept.accept.Tie as tie

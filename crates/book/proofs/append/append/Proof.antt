@@ -16,8 +16,8 @@ use Rattle.book_laws.specs.Trailer.{describe}
 use Rattle.book_laws.specs.TrailerLaws.{onBook-on, onBook-refused}
 use Rattle.book_laws.specs.Start.{Written, unwritten}
 use Rattle.book_laws.specs.Append.{appendAfter, appendOf}
-use Rattle.book.specs.declared.trailer.Description as Code
-use Rattle.book.specs.Answers.{descriptionOf}
+use Rattle.book_bytes.specs.declared.trailer.Description as Code
+use Rattle.book_bytes.specs.Answers.{descriptionOf}
 use Rattle.book.proofs.Described.{of-book}
 use borrow.Author.Needs.{needs}
 use Rattle.book.proofs.append.append.Statement.{statement}

@@ -11,8 +11,8 @@ use Rattle.book_laws.specs.Trailer.{describe}
 use Rattle.book_laws.specs.TrailerLaws.{onBook-on, onBook-refused}
 use Rattle.book_laws.specs.Accept.{caseAt}
 use Rattle.book_laws.specs.Read.{unread, readAfter, readOf}
-use Rattle.book.specs.declared.trailer.Description as Code
-use Rattle.book.specs.Answers.{descriptionOf}
+use Rattle.book_bytes.specs.declared.trailer.Description as Code
+use Rattle.book_bytes.specs.Answers.{descriptionOf}
 use Rattle.book.proofs.Described.{Inside, inside}
 use borrow.Author.Needs.{needs}
 use Rattle.book.proofs.read.read.Statement.{statement}

@@ -8,8 +8,8 @@ use native.Mathlib.Omega.{arith}
 use borrow.Author.Needs.{needs}
 use lib.Dec.{lit<}
 use lib.ListN.{length}
-use Rattle.text.specs.Decimal.{decimal}
-use Rattle.text.specs.DecimalLaws.{count-64}
+use Rattle.decimals.specs.Decimal.{decimal}
+use Rattle.decimals.specs.DecimalLaws.{count-64}
 use Rattle.splice.specs.Splice.{splice}
 use Rattle.worksheet.proofs.Points.{fixed-none, ends, written}
 use Rattle.worksheet.proofs.fixed.put_fixed.Statement.{statement}

@@ -1,0 +1,94 @@
+-- `book_bytes::record::fields_of` meets its contract. The invariant: the first i fields are the first i numbers of the case. The measure is how
+-- many are left. Assumes nothing.
+use mathlib.Core.List.{List, [], _∷_, _++_, append-assoc}
+use mathlib.Core.Path.{_≡_, refl, sym, ap, _∙_}
+use Prim.Native.Nat.{ℕ, _-_, _≤_}
+use native.Mathlib.Omega.{arith}
+use lib.ListN.{length, take, set, length-set}
+use lib.Seq.{take-all, take-suc-set}
+use Rattle.splice.specs.Laws.{copy-one}
+use Rattle.book_bytes.proofs.record.fields_of.Statement.{statement}
+use Rattle.book_bytes.proofs.record.fields_of.Tie as tie
+
+-- the answer and the rating are stored after the case
+last-two :
+    (f x : List ℕ) (answer rating : ℕ) → length f ≡ 28 → length x ≡ 26 → take 26 f ≡ take 26 x →
+    (set (set f 26 answer) 27 rating ≡ x ++ (answer ∷ rating ∷ [])) × (length (set (set f 26 answer) 27 rating) ≡ 28)
+last-two f x answer rating f-size x-size so-far =
+    let size : length (set (set f 26 answer) 27 rating) ≡ 28 =
+    length-set (set f 26 answer) 27 rating ∙ length-set f 26 answer ∙ f-size
+    in
+    let inner-size = length-set f 26 answer ∙ f-size in
+    let case-first = take-suc-set f 26 answer (omega arith) ∙ ap (λ (t : List ℕ). t ++ (answer ∷ [])) (so-far ∙ take-all 26 x (omega arith)) in (
+      sym (take-all 28 (set (set f 26 answer) 27 rating) (omega arith))
+          ∙ take-suc-set (set f 26 answer) 27 rating (omega (arith, inner-size))
+          ∙ ap (λ (t : List ℕ). t ++ (rating ∷ [])) case-first
+          ∙ append-assoc x (answer ∷ []) (rating ∷ []),
+      size,
+    )
+
+abbrev Inv-loop : tie.InvT-loop
+Inv-loop answer rating x fields₀ i₀ fields i = (i ≤ 26) × (length fields ≡ 28) × (take i fields ≡ take i x)
+
+abbrev μ-loop : tie.MeasureT-loop
+μ-loop answer rating x fields₀ i₀ fields i = 26 - i
+
+loop-holds : tie.Need-loop-holds Inv-loop μ-loop
+loop-holds c = (omega arith, refl, refl)
+
+mul-fields : tie.Need-mul-fields Inv-loop μ-loop
+mul-fields c = omega arith
+
+array-read-fields : tie.Need-array-read-fields Inv-loop μ-loop
+array-read-fields c = omega arith
+
+mul-fields-2 : tie.Need-mul-fields-2 Inv-loop μ-loop
+mul-fields-2 c = omega arith
+
+array-write-fields : tie.Need-array-write-fields Inv-loop μ-loop
+array-write-fields c = omega arith
+
+add-i : tie.Need-add-i Inv-loop μ-loop
+add-i c = omega arith
+
+loop-less : tie.Need-loop-less Inv-loop μ-loop
+loop-less c = omega arith
+
+loop-again : tie.Need-loop-again Inv-loop μ-loop
+loop-again c =
+    let at-loop = c .before .loop in (
+      omega arith,
+      length-set (at-loop .fields) (at-loop .i) _ ∙ at-loop .inv .1,
+      copy-one (at-loop .fields) (c .before .before .args .t1) (at-loop .i) (omega arith) (omega arith) (at-loop .inv .2),
+    )
+
+array-write-fields-2 : tie.Need-array-write-fields-2 Inv-loop μ-loop
+array-write-fields-2 c = omega arith
+
+array-write-fields-3 : tie.Need-array-write-fields-3 Inv-loop μ-loop
+array-write-fields-3 c = omega arith
+
+returns : tie.Need-returns Inv-loop μ-loop
+returns c =
+    let at-loop = c .before .loop in
+    let all : at-loop .i ≡ 26 = omega arith in
+    last-two (at-loop .fields) (c .before .before .args .t1) _ _ (omega arith) (omega arith)
+    (ap (λ (k : ℕ). take k (at-loop .fields)) (sym all) ∙ at-loop .inv .2 ∙ ap (λ (k : ℕ). take k (c .before .before .args .t1)) all)
+
+pub fields-of-spec : {M : Type 1} → statement M
+fields-of-spec =
+    tie.close
+    (tie.spec
+    Inv-loop
+    μ-loop
+    loop-holds
+    mul-fields
+    array-read-fields
+    mul-fields-2
+    array-write-fields
+    add-i
+    loop-less
+    loop-again
+    array-write-fields-2
+    array-write-fields-3
+    returns)

@@ -1,0 +1,59 @@
+-- `book_bytes::record::record_agrees` meets its contract: the two fields are compared with the rating of the case. Assumes nothing.
+use mathlib.Core.Bool.{_&&_}
+use mathlib.Core.List.{List}
+use mathlib.Core.Path.{_≡_, ap, ap₂, _∙_}
+use Prim.Native.Nat.{ℕ, _+_}
+use lib.Dec.{eqb}
+use Rattle.rating.specs.Rate.{Answer, answerOf, rateOf}
+use Rattle.rating.specs.declared.rate.Rated.{Rated}
+use Rattle.book_laws.specs.Format.{wordAt}
+use Rattle.book_laws.specs.Accept.{caseAt, answerAt, ratingAt, agrees}
+use borrow.Author.Needs.{needs}
+use Rattle.book_bytes.proofs.record.record_agrees.Statement.{statement}
+use Rattle.book_bytes.proofs.record.record_agrees.Tie as tie
+
+compared :
+    (b : List ℕ) (at : ℕ) {x : List ℕ} {r : Rated} {answer rating : ℕ} → x ≡ caseAt b at → answerOf r ≡ rateOf x →
+    answer ≡ wordAt b (at + 104) → rating ≡ wordAt b (at + 108) →
+    eqb answer (r .answer) && eqb rating (r .rating) ≡ agrees b at
+unfolding agrees answerAt ratingAt
+compared b at {x} {r} case-is answer-is answer-read rating-read =
+    let is = answer-is ∙ ap rateOf case-is in
+    ap₂ _&&_ (ap₂ eqb answer-read (ap (λ (a : Answer). a .number) is)) (ap₂ eqb rating-read (ap (λ (a : Answer). a .rating) is))
+
+case-at-requires : tie.Need-case-at-requires
+case-at-requires c κs = search needs
+
+rate-requires : tie.Need-rate-requires
+rate-requires c κs = search needs
+
+add-word-at : tie.Need-add-word-at
+add-word-at c = search needs
+
+word-at-requires : tie.Need-word-at-requires
+word-at-requires c κs = search needs
+
+add-word-at-2 : tie.Need-add-word-at-2
+add-word-at-2 c = search needs
+
+word-at-requires-2 : tie.Need-word-at-requires-2
+word-at-requires-2 c κs = search needs
+
+returns : tie.Need-returns
+returns c =
+    let second = c .before in
+    let first = second .before .before in
+    let rated = first .before in
+    compared _ _ (rated .before .case-at .ensures) (rated .rate .ensures) (first .word-at .ensures) (second .word-at2 .ensures)
+
+pub record-agrees-spec : {M : Type 1} → statement M
+record-agrees-spec =
+    tie.close
+    (tie.spec
+    case-at-requires
+    rate-requires
+    add-word-at
+    word-at-requires
+    add-word-at-2
+    word-at-requires-2
+    returns)

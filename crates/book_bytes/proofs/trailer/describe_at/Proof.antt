@@ -1,0 +1,117 @@
+-- `book_bytes::trailer::describe_at` meets its contract: 21 for another mark, 22 for another field, else the description. Assumes nothing.
+use mathlib.Core.Bool.{true, false}
+use mathlib.Core.List.{List}
+use mathlib.Core.Path.{_≡_, sym, _∙_}
+use Prim.Native.Nat.{ℕ, _+_, _-_}
+use borrow.Author.Tests.{not-true, not-false}
+use Rattle.book_laws.specs.Format.{wordAt, mark, stands}
+use Rattle.book_laws.specs.Trailer.{undescribed, wrongTrailer, describeAt}
+use Rattle.book_laws.specs.TrailerLaws.{right}
+use borrow.Author.Needs.{needs}
+use Rattle.book_bytes.proofs.trailer.describe_at.Statement.{statement}
+use Rattle.book_bytes.proofs.trailer.describe_at.Tie as tie
+
+unmarked : (b : List ℕ) (at : ℕ) → stands mark b at ≡ false → describeAt b at ≡ undescribed 21
+unfolding describeAt
+unmarked b at other = simp other
+
+-- the fields as they were read, in the trailer's test
+module _ (b : List ℕ) (at : ℕ) {count distance size : ℕ} (marked : stands mark b at ≡ true) (count-is : count ≡ wordAt b (at + 4))
+    (distance-is : distance ≡ wordAt b (at + 8)) (size-is : size ≡ wordAt b (at + 12)) where
+  wrong : wrongTrailer at count distance size ≡ true → describeAt b at ≡ undescribed 22
+  unfolding describeAt
+  wrong test = rw (← count-is, ← distance-is, ← size-is) (simp (marked, test))
+
+  sound : wrongTrailer at count distance size ≡ false → describeAt b at ≡ record { number = 0; count = count; first = at - distance }
+  unfolding describeAt
+  sound test = rw (← count-is, ← distance-is, ← size-is) (simp (marked, test))
+
+has-mark-requires : tie.Need-has-mark-requires
+has-mark-requires c κs = search needs
+
+undescribed-requires : tie.Need-undescribed-requires
+undescribed-requires c κs = search needs
+
+returns : tie.Need-returns
+returns c =
+    c .undescribed .ensures
+    ∙ sym (unmarked _ _ (sym (c .before .before .has-mark .ensures) ∙ not-true _ (c .before .if1 .taken)))
+
+add-word-at : tie.Need-add-word-at
+add-word-at c = search needs
+
+word-at-requires : tie.Need-word-at-requires
+word-at-requires c κs = search needs
+
+add-word-at-2 : tie.Need-add-word-at-2
+add-word-at-2 c = search needs
+
+word-at-requires-2 : tie.Need-word-at-requires-2
+word-at-requires-2 c κs = search needs
+
+add-word-at-3 : tie.Need-add-word-at-3
+add-word-at-3 c = search needs
+
+word-at-requires-3 : tie.Need-word-at-requires-3
+word-at-requires-3 c κs = search needs
+
+wrong-trailer-requires : tie.Need-wrong-trailer-requires
+wrong-trailer-requires c κs = search needs
+
+undescribed-requires-2 : tie.Need-undescribed-requires-2
+undescribed-requires-2 c κs = search needs
+
+returns-2 : tie.Need-returns-2
+returns-2 c =
+    let tested = c .before .before in
+    let third = tested .before in
+    let second = third .before in
+    let first = second .before in
+    c .undescribed2 .ensures
+    ∙ sym (wrong _ _ (sym (first .before .before .has-mark .ensures) ∙ not-false _ (first .before .if1 .left))
+    (first .word-at .ensures)
+    (second .word-at2 .ensures)
+    (third .word-at3 .ensures)
+    (sym (tested .wrong-trailer .ensures) ∙ c .before .if2 .taken))
+
+cast-t7 : tie.Need-cast-t7
+cast-t7 c = search needs
+
+cast-t10 : tie.Need-cast-t10
+cast-t10 c = search needs
+
+sub-t11 : tie.Need-sub-t11
+sub-t11 c = right _ _ _ _ (sym (c .before .wrong-trailer .ensures) ∙ c .if2 .left) .before
+
+returns-3 : tie.Need-returns-3
+returns-3 c =
+    let tested = c .before in
+    let third = tested .before in
+    let second = third .before in
+    let first = second .before in
+    sym (sound _ _ (sym (first .before .before .has-mark .ensures) ∙ not-false _ (first .before .if1 .left))
+    (first .word-at .ensures)
+    (second .word-at2 .ensures)
+    (third .word-at3 .ensures)
+    (sym (tested .wrong-trailer .ensures) ∙ c .if2 .left))
+
+pub describe-at-spec : {M : Type 1} → statement M
+describe-at-spec =
+    tie.close
+    (tie.spec
+    has-mark-requires
+    undescribed-requires
+    returns
+    add-word-at
+    word-at-requires
+    add-word-at-2
+    word-at-requires-2
+    add-word-at-3
+    word-at-requires-3
+    wrong-trailer-requires
+    undescribed-requires-2
+    returns-2
+    cast-t7
+    cast-t10
+    sub-t11
+    returns-3)

@@ -1,0 +1,39 @@
+-- `book_bytes::trailer::describe_book` meets its contract: 20, then 21 for fewer than 16 bytes, then what the trailer says. Assumes nothing.
+use mathlib.Core.Path.{sym, _∙_}
+use borrow.Author.Tests.{lt-ltb, le-ltb}
+use Rattle.book_laws.specs.Trailer.{describe}
+use borrow.Author.Needs.{needs}
+use Rattle.book_bytes.proofs.trailer.describe_book.Statement.{statement}
+use Rattle.book_bytes.proofs.trailer.describe_book.Tie as tie
+
+undescribed-requires : tie.Need-undescribed-requires
+undescribed-requires c κs = search needs
+
+returns : tie.Need-returns
+unfolding describe
+returns c = c .undescribed .ensures ∙ sym (simp (lt-ltb _ _ (c .before .if1 .taken)))
+
+undescribed-requires-2 : tie.Need-undescribed-requires-2
+undescribed-requires-2 c κs = search needs
+
+returns-2 : tie.Need-returns-2
+unfolding describe
+returns-2 c = c .undescribed2 .ensures ∙ sym (simp (le-ltb _ _ (c .before .before .if1 .left), lt-ltb _ _ (c .before .if2 .taken)))
+
+describe-at-requires : tie.Need-describe-at-requires
+describe-at-requires c κs = search needs
+
+returns-3 : tie.Need-returns-3
+unfolding describe
+returns-3 c = c .describe-at .ensures ∙ sym (simp (le-ltb _ _ (c .before .before .if1 .left), le-ltb _ _ (c .before .if2 .left)))
+
+pub describe-book-spec : {M : Type 1} → statement M
+describe-book-spec =
+    tie.close
+    (tie.spec
+    undescribed-requires
+    returns
+    undescribed-requires-2
+    returns-2
+    describe-at-requires
+    returns-3)

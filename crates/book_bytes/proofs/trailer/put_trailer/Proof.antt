@@ -1,0 +1,76 @@
+-- `book_bytes::trailer::put_trailer` meets its contract: the mark and three words, one after another. Assumes nothing.
+use mathlib.Core.List.{List}
+use mathlib.Core.Path.{_≡_, refl}
+use Prim.Native.Nat.{ℕ, _+_, _*_, _≤_}
+use native.Mathlib.Omega.{arith}
+use lib.ListN.{length}
+use Rattle.splice.specs.Splice.{splice}
+use Rattle.splice.specs.Put.{Put, put-then}
+use Rattle.book_laws.specs.Format.{wordBytes, wordsBytes, mark, trailerBytes}
+use borrow.Author.Needs.{needs}
+use Rattle.book_bytes.proofs.trailer.put_trailer.Statement.{statement}
+use Rattle.book_bytes.proofs.trailer.put_trailer.Tie as tie
+
+parts :
+    (l : List ℕ) (at count : ℕ) {a b d e : List ℕ} → at ≤ length l → a ≡ splice l at mark →
+    b ≡ splice a (at + 4) (wordBytes count) → d ≡ splice b (at + 8) (wordBytes (112 * count)) →
+    e ≡ splice d (at + 12) (wordBytes 112) → e ≡ splice l at (trailerBytes count)
+unfolding trailerBytes wordsBytes wordBytes
+parts l at count {a} {b} {d} {e} h put-a put-b put-d put-e =
+    let marked : Put l at mark a (at + 4) = (refl, put-a) in
+    let counted : Put a (at + 4) (wordBytes count) b (at + 8) = (omega arith, put-b) in
+    let distant : Put b (at + 8) (wordBytes (112 * count)) d (at + 12) = (omega arith, put-d) in
+    let sized : Put d (at + 12) (wordBytes 112) e (at + 16) = (omega arith, put-e) in
+    put-then l at _ _ h (put-then l at _ _ h (put-then l at _ _ h marked counted) distant) sized .1
+
+put-mark-requires : tie.Need-put-mark-requires
+put-mark-requires c κs = search needs
+
+add-put-word : tie.Need-add-put-word
+add-put-word c = search needs
+
+put-word-requires : tie.Need-put-word-requires
+put-word-requires c κs = search needs
+
+add-put-word-2 : tie.Need-add-put-word-2
+add-put-word-2 c = search needs
+
+mul-put-word : tie.Need-mul-put-word
+mul-put-word c = search needs
+
+put-word-requires-2 : tie.Need-put-word-requires-2
+put-word-requires-2 c κs = search needs
+
+add-put-word-3 : tie.Need-add-put-word-3
+add-put-word-3 c = search needs
+
+put-word-requires-3 : tie.Need-put-word-requires-3
+put-word-requires-3 c κs = search needs
+
+same-length : tie.Need-same-length
+same-length c = search needs
+
+returns : tie.Need-returns
+returns c =
+    let word3 = c .before .before in
+    let word2 = word3 .before .before .before .before in
+    let word1 = word2 .before .before .before .before in
+    let marked = word1 .before .before .before .before in
+    parts _ _ _ (omega (arith, marked .before .before .before .pre)) (marked .put-mark .ensures) (word1 .put-word .ensures)
+    (word2 .put-word2 .ensures)
+    (word3 .put-word3 .ensures)
+
+pub put-trailer-spec : {M : Type 1} → statement M
+put-trailer-spec =
+    tie.close
+    (tie.spec
+    put-mark-requires
+    add-put-word
+    put-word-requires
+    add-put-word-2
+    mul-put-word
+    put-word-requires-2
+    add-put-word-3
+    put-word-requires-3
+    same-length
+    returns)

@@ -1,0 +1,40 @@
+-- `decimals::put_number` meets its contract: the blank and the digits, at most 20, are joined.
+-- Assumes nothing.
+use mathlib.Core.List.{List, [], _∷_, _++_, append-nil}
+use mathlib.Core.Path.{_≡_, sym, ap}
+use Prim.Native.Nat.{ℕ}
+use native.Mathlib.Omega.{arith}
+use borrow.Author.Needs.{needs}
+use Rattle.splice.specs.Put.{put-as, put-then}
+use Rattle.decimals.specs.Decimal.{decimal}
+use Rattle.decimals.specs.DecimalLaws.{count-64}
+use Rattle.decimals.specs.Decimal.{spaced}
+use Rattle.decimals.proofs.put_number.Statement.{statement}
+use Rattle.decimals.proofs.put_number.Tie as tie
+
+one : (x : ℕ) → (32 ∷ []) ++ decimal x ≡ spaced (x ∷ [])
+unfolding spaced
+one x = ap (λ (t : List ℕ). 32 ∷ t) (sym (append-nil (decimal x)))
+
+put-byte-requires : tie.Need-put-byte-requires
+put-byte-requires c κs = search needs
+
+put-decimal-requires : tie.Need-put-decimal-requires
+put-decimal-requires c κs = search needs
+
+same-length : tie.Need-same-length
+same-length c = search needs
+
+returns : tie.Need-returns
+returns c =
+    let digits = c .before .before in
+    let blank = digits .before .before .before .before in
+    let start = blank .before .before .before in
+    let x = start .args .x in (
+      put-as _ _ (one x)
+          (put-then _ _ (32 ∷ []) (decimal x) (omega arith) (blank .put-byte .ensures) (digits .put-decimal .ensures)),
+      omega (arith, count-64 x (start .fits .x .fits)),
+    )
+
+pub put-number-spec : {M : Type 1} → statement M
+put-number-spec = tie.close (tie.spec put-byte-requires put-decimal-requires same-length returns)

@@ -1,0 +1,24 @@
+-- A number in decimal, as ASCII bytes without leading zeros, and numbers on a line. Assumes nothing.
+use mathlib.Core.Bool.{cond}
+use mathlib.Core.List.{List, [], _∷_, _++_}
+use Prim.Native.Nat.{ℕ, zero, suc, _+_, _/_, _%_}
+use lib.Dec.{ltb}
+
+-- the digits of x, of which there are at most n: a number below ten is one digit, and any other is a tenth of it and its last digit
+unfoldable pub digits : ℕ → ℕ → List ℕ
+digits zero x = []
+digits (suc n) x = cond (ltb x 10) ((x + 48) ∷ []) (digits n (x / 10) ++ ((x % 10 + 48) ∷ []))
+
+-- x has at most x + 1 digits
+unfoldable pub decimal : ℕ → List ℕ
+decimal x = digits (suc x) x
+
+-- each number with a blank in front
+unfoldable pub spaced : List ℕ → List ℕ
+spaced [] = []
+spaced (x ∷ xs) = 32 ∷ (decimal x ++ spaced xs)
+
+-- numbers with one blank between them
+unfoldable pub written : List ℕ → List ℕ
+written [] = []
+written (x ∷ xs) = decimal x ++ spaced xs

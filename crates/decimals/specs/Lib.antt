@@ -1,0 +1,3 @@
+-- Numbers in decimal, and laws about them. Assumes nothing.
+pub mod Decimal
+pub mod DecimalLaws

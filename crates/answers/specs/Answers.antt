@@ -2,9 +2,8 @@
 use mathlib.Core.List.{List, [], _∷_, _++_}
 use Prim.Native.Nat.{ℕ}
 use Rattle.rating.specs.Rate.{Answer, rateOf}
-use Rattle.decimals.specs.Decimal.{decimal}
+use Rattle.decimals.specs.Decimal.{decimal, written}
 use Rattle.text.specs.Line.{Said, passedOver, aCase, unreadable, readLine}
-use Rattle.decimals.specs.Decimal.{written}
 
 -- the number of the answer, the rating and the sheet in decimal, with one blank between them, and a line feed
 unfoldable pub textOf : Answer → List ℕ

@@ -7,10 +7,8 @@ use native.Mathlib.Omega.{arith}
 use borrow.Author.Needs.{needs}
 use Rattle.splice.specs.Put.{put-as, put-then}
 use Rattle.answers.specs.Answers.{textOf}
-use Rattle.decimals.specs.Decimal.{decimal}
-use Rattle.decimals.specs.DecimalLaws.{count-64}
-use Rattle.decimals.specs.Decimal.{spaced, written}
-use Rattle.decimals.specs.DecimalLaws.{spaced-append}
+use Rattle.decimals.specs.Decimal.{decimal, spaced, written}
+use Rattle.decimals.specs.DecimalLaws.{count-64, spaced-append}
 use Rattle.answers.proofs.put_answer.Statement.{statement}
 use Rattle.answers.proofs.put_answer.Tie as tie
 

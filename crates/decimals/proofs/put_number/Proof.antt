@@ -6,9 +6,8 @@ use Prim.Native.Nat.{ℕ}
 use native.Mathlib.Omega.{arith}
 use borrow.Author.Needs.{needs}
 use Rattle.splice.specs.Put.{put-as, put-then}
-use Rattle.decimals.specs.Decimal.{decimal}
+use Rattle.decimals.specs.Decimal.{decimal, spaced}
 use Rattle.decimals.specs.DecimalLaws.{count-64}
-use Rattle.decimals.specs.Decimal.{spaced}
 use Rattle.decimals.proofs.put_number.Statement.{statement}
 use Rattle.decimals.proofs.put_number.Tie as tie
 

@@ -4,10 +4,8 @@ use mathlib.Core.Path.{_≡_, sym, ap, _∙_}
 use Prim.Native.Nat.{ℕ, _+_, _≤_}
 use native.Mathlib.Omega.{arith}
 use Rattle.splice.specs.Put.{put-as, put-then}
-use Rattle.decimals.specs.Decimal.{decimal}
-use Rattle.decimals.specs.DecimalLaws.{count-64}
-use Rattle.decimals.specs.Decimal.{spaced, written}
-use Rattle.decimals.specs.DecimalLaws.{spaced-append}
+use Rattle.decimals.specs.Decimal.{decimal, spaced, written}
+use Rattle.decimals.specs.DecimalLaws.{count-64, spaced-append}
 use borrow.Author.Needs.{needs}
 use Rattle.listing.proofs.put_numbers.Statement.{statement}
 use Rattle.listing.proofs.put_numbers.Tie as tie

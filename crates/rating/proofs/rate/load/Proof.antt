@@ -2,7 +2,7 @@
 use borrow.Author.Needs.{needs}
 use mathlib.Core.Path.{_∙_, sym, _≡_, ap}
 use mathlib.Core.Bool.{true}
-use mathlib.Core.List.{List, [], _∷_}
+use mathlib.Core.List.{List, [], _∷_, List}
 use native.Mathlib.Omega.{arith}
 use lib.Dec.{ltb}
 use borrow.Author.Tests.{lt-ltb, le-ltb}
@@ -14,7 +14,6 @@ use Rattle.rating.specs.Rise.{rise-range}
 use Rattle.rating.specs.Rate.{loaded, rated, sheetOf}
 use Rattle.rating.specs.Values.{riseOf, ddOf, bOf, rsOf, zsOf, zpOf}
 use Prim.Native.Nat.{ℕ, _*_, _≤_}
-use mathlib.Core.List.{List}
 use Rattle.rating.proofs.rate.load.Statement.{statement}
 use Rattle.rating.proofs.rate.load.Tie as tie
 

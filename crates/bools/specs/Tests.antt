@@ -1,7 +1,7 @@
 -- What the outcome of a test says of its parts, and of an answer that is chosen by it. Every crate's refusals are such tests.
 -- Assumes nothing.
 use mathlib.Core.Bool.{Bool, true, false, cond, _&&_, _||_, false≢true, true≢false}
-use mathlib.Core.Path.{_≡_, refl}
+use mathlib.Core.Path.{_≡_, refl, sym, _∙_}
 use Prim.Native.Nat.{ℕ}
 
 pub both : (a b : Bool) → a && b ≡ true → (a ≡ true) × (b ≡ true)
@@ -15,6 +15,10 @@ not-both false b e some = absurd (false≢true some)
 pub neither : (a b : Bool) → a || b ≡ false → (a ≡ false) × (b ≡ false)
 neither true b e = absurd (true≢false e)
 neither false b e = (refl, e)
+
+-- no test has both outcomes
+pub other-outcome : {A : Type 0} (t : Bool) → t ≡ false → t ≡ true → A
+other-outcome t f e = absurd (false≢true (sym f ∙ e))
 
 -- an answer by a chain of tests that is no refusal: the first test was passed, and the answer is what follows
 pub passed :

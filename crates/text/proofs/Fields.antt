@@ -1,36 +1,16 @@
 -- What `fields` gives, said of the words that are left: how the loop of `text::line::read_fields` goes on by one word, and where it stops.
 -- Assumes nothing.
-use mathlib.Core.List.{List, [], _∷_, _++_}
-use mathlib.Core.Path.{_≡_, refl, sym, ap, _∙_}
+use mathlib.Core.List.{List, []}
+use mathlib.Core.Path.{_≡_, sym, ap, _∙_}
 use Prim.Native.Nat.{ℕ, suc, _+_, _-_, _≤_, _<_}
 use native.Mathlib.Nat.{add-sub-cancel-left}
 use lib.ListN.{length, take, drop}
 use lib.Seq.{drop-drop}
 use Rattle.text.specs.declared.number.Reading.{Reading}
-use Rattle.text.specs.Line.{Said, aCase, unreadable, before, field, fields}
+use Rattle.text.specs.Line.{aCase, unreadable, field, fields}
 use Rattle.text.specs.Number.{readNumber}
 use Rattle.text.specs.Runs.{left, nothing-left}
 use Rattle.text.specs.Words.{run, isBlank, isInk, dropBlanks, word, dropWord}
-
--- numbers in front of those that the rest says
-unfoldable pub after : List ℕ → Said → Said
-after [] r = r
-after (x ∷ xs) r = before x (after xs r)
-
-pub after-one : (xs : List ℕ) (x : ℕ) (r : Said) → after (xs ++ (x ∷ [])) r ≡ after xs (before x r)
-unfolding after
-after-one [] x r = refl
-after-one (y ∷ xs) x r = ap (before y) (after-one xs x r)
-
-pub after-unreadable : (xs : List ℕ) → after xs unreadable ≡ unreadable
-unfolding after before
-after-unreadable [] = refl
-after-unreadable (x ∷ xs) = ap (before x) (after-unreadable xs)
-
-pub after-none : (xs : List ℕ) → after xs (aCase []) ≡ aCase xs
-unfolding after before
-after-none [] = refl
-after-none (x ∷ xs) = ap (before x) (after-none xs)
 
 pub past-blanks : (s : List ℕ) (at from : ℕ) → from ≡ at + run isBlank (drop at s) → dropBlanks (drop at s) ≡ drop from s
 unfolding dropBlanks

@@ -1,3 +1,4 @@
+pub mod After
 pub mod Answer
 pub mod CaseLaws
 pub mod Examples
@@ -7,6 +8,8 @@ pub mod Leading
 pub mod Line
 pub mod Number
 pub mod NumberLaws
+pub mod Pieces
 pub mod RoundTrip
 pub mod Runs
+pub mod WordLaws
 pub mod Words

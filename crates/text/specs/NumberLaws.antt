@@ -68,7 +68,7 @@ unfolding isEmpty
 not-empty [] h = absurd (omega arith)
 not-empty (b ∷ s) h = refl
 
-pub first-digit : (x : ℕ) → isDigit (getD (decimal x) 0 0) ≡ true
+first-digit : (x : ℕ) → isDigit (getD (decimal x) 0 0) ≡ true
 first-digit x = every-at isDigit (decimal x) (decimal-digits x) 0 (count-positive x)
 
 -- the word `decimal x` says x

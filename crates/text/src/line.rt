@@ -8,6 +8,7 @@ ghost use Rattle.text.specs.Line.{fields, readLine, says, textLength, wi
 ghost use Rattle.text.specs.Number.{readNumber};
 ghost use Rattle.text.specs.Words.{isInk, run};
 use crate::number::Reading;
+use crate::number::is_number;
 use crate::number::leading_digits;
 use crate::number::read_number;
 use crate::words::is_past_word;
@@ -23,7 +24,7 @@ pub struct Read {
     pub fields: [u32; WIDTH],
 }
 
-fn no_case(kind: u32) -> Read
+pub fn no_case(kind: u32) -> Read
     ensures { λ r. ⌜ r ≡ noCase kind ⌝ }
 {
     Read {
@@ -44,10 +45,10 @@ fn read_word(s: &[u8], from: usize) -> Word
     ensures { λ r. ⌜ (r .to ≡ from + run isInk (drop from (now (s .entry))))
         × (r .said ≡ readNumber (piece from (r .to) (now (s .entry)))) ⌝ }
 {
-    if 8 <= s.len() - from {
+    if 10 <= s.len() - from {
         let digits = leading_digits(s, from);
         let to = digits.to;
-        if from < to {
+        if is_number(from, to, digits.value, 4294967295) {
             if is_past_word(s, to) {
                 return Word {
                     to,

@@ -1,6 +1,7 @@
 // A word read as a number.
+ghost use mathlib.Core.Bool.{true};
 ghost use mathlib.Core.Path.{_≡_};
-ghost use Prim.Native.Nat.{_+_, _≤_};
+ghost use Prim.Native.Nat.{_+_, _≤_, _<_};
 ghost use lib.ListN.{length};
 ghost use Rattle.text.specs.Leading.{DigitsIn};
 ghost use Rattle.text.specs.Number.{readDigits, readNumber};
@@ -55,20 +56,20 @@ pub fn read_number(w: &[u8]) -> Reading
 }
 
 // Where digits end, and their value.
-pub(crate) struct Leading {
-    pub(crate) to: usize,
-    pub(crate) value: u64,
+pub struct Leading {
+    pub to: usize,
+    pub value: u64,
 }
 
-// The digits from `from` on, of the eight bytes there: these fit 32 bits, so that no limit is tried on the way, and the compiler
-// writes the loop out.
-pub(crate) fn leading_digits(s: &[u8], from: usize) -> Leading
-    requires { ⌜ from + 8 ≤ length (now s) ⌝ }
-    ensures { λ r. ⌜ DigitsIn (now (s .entry)) from (r .to) (r .value) ⌝ }
+// The digits from `from` on, of the ten bytes there, as many as a number of 32 bits has: these fit 64 bits, so that no limit is tried
+// on the way, and the compiler writes the loop out.
+pub fn leading_digits(s: &[u8], from: usize) -> Leading
+    requires { ⌜ from + 10 ≤ length (now s) ⌝ }
+    ensures { λ r. ⌜ (r .to ≤ from + 10) × DigitsIn (now (s .entry)) from (r .to) (r .value) ⌝ }
 {
     let mut value: u64 = 0;
     let mut i: usize = 0;
-    while i < 8 {
+    while i < 10 {
         let b = s[from + i];
         if b < 48 {
             break;
@@ -83,4 +84,11 @@ pub(crate) fn leading_digits(s: &[u8], from: usize) -> Leading
         to: from + i,
         value,
     }
+}
+
+// Whether digits from `from` to `to` are a number of at most `limit`.
+pub fn is_number(from: usize, to: usize, value: u64, limit: u64) -> bool
+    ensures { λ r. ⌜ (r ≡ true → (from < to) × (value ≤ limit)) ⌝ }
+{
+    (from < to) & (value <= limit)
 }

@@ -6,7 +6,7 @@ ghost use lib.ListN.{drop};
 ghost use Rattle.text.specs.Words.{isBlank, isInk, run};
 
 // A blank or a tab.
-fn is_blank(b: u8) -> bool
+pub fn is_blank(b: u8) -> bool
     ensures { λ r. ⌜ r ≡ isBlank b ⌝ }
 {
     (b == 32) | (b == 9)

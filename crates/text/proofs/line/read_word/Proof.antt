@@ -1,6 +1,8 @@
--- `text::line::read_word` meets its contract: at most eight digits after which no word goes on are the word, and any other word is
+-- `text::line::read_word` meets its contract: at most ten digits after which no word goes on are the word, and any other word is
 -- read from its start to its end.
 -- Assumes nothing.
+use mathlib.Core.Path.{sym}
+use native.Mathlib.Omega.{arith}
 use borrow.Author.Needs.{needs}
 use Rattle.text.specs.Gather.{piece}
 use Rattle.text.specs.Leading.{word-ends, word-says}
@@ -15,17 +17,24 @@ sub-if1 c = search needs
 leading-digits-requires : tie.Need-leading-digits-requires
 leading-digits-requires c κs = search needs
 
+is-number-requires : tie.Need-is-number-requires
+is-number-requires c κs = search needs
+
 is-past-word-requires : tie.Need-is-past-word-requires
 is-past-word-requires c κs = search needs
 
 cast-t12 : tie.Need-cast-t12
-cast-t12 c = search needs
+cast-t12 c =
+    let at-test = c .before .before .before in
+    omega (arith, at-test .before .is-number .ensures (at-test .if2 .taken) .1)
 
 returns : tie.Need-returns
 returns c =
     let past = c .before .before .is-past-word .ensures (c .before .if3 .taken) in
-    let digits = c .before .before .before .before .leading-digits .ensures in
-    (word-ends _ _ _ _ digits past, word-says _ _ _ _ digits (c .before .before .before .if2 .taken))
+    let at-test = c .before .before .before in
+    let number = at-test .before .is-number .ensures (at-test .if2 .taken) in
+    let digits = at-test .before .before .leading-digits .ensures .1 in
+    (word-ends _ _ _ _ digits past, sym (word-says _ _ _ _ digits (number .0) (number .1)))
 
 skip-word-requires : tie.Need-skip-word-requires
 skip-word-requires c κs = search needs
@@ -52,6 +61,7 @@ read-word-spec =
     (tie.spec
     sub-if1
     leading-digits-requires
+    is-number-requires
     is-past-word-requires
     cast-t12
     returns

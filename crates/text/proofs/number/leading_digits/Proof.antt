@@ -1,5 +1,5 @@
 -- `text::number::leading_digits` meets its contract. The invariant: the bytes passed are digits of the value so far, which is below 10^i.
--- The measure is how many of the eight are left.
+-- The measure is how many of the ten are left.
 -- Assumes nothing.
 use mathlib.Core.Path.{_≡_, subst}
 use Prim.Native.Nat.{ℕ, _+_, _-_, _*_, _^_, _≤_, _<_}
@@ -10,10 +10,10 @@ use Rattle.text.proofs.number.leading_digits.Statement.{statement}
 use Rattle.text.proofs.number.leading_digits.Tie as tie
 
 abbrev Inv-loop : tie.InvT-loop
-Inv-loop s from value₀ i₀ value i = (i ≤ 8) × (value < 10 ^ i) × DigitsIn s from (from + i) value
+Inv-loop s from value₀ i₀ value i = (i ≤ 10) × (value < 10 ^ i) × DigitsIn s from (from + i) value
 
 abbrev μ-loop : tie.MeasureT-loop
-μ-loop s from value₀ i₀ value i = 8 - i
+μ-loop s from value₀ i₀ value i = 10 - i
 
 loop-holds : tie.Need-loop-holds Inv-loop μ-loop
 loop-holds c =
@@ -55,9 +55,8 @@ loop-again c =
     let b = getD (a .s .now) (a .from + i) 0 in
     let next : a .from + i + 1 ≡ a .from + (i + 1) = omega arith in
     let small = small-more i x b (at-loop .loop .inv .1) (c .if2 .left) in
-    let fits = small-most (i + 1) (x * 10 + (b - 48)) small (omega arith) in
     let more =
-    digits-more _ _ (a .from + i) x (at-loop .loop .inv .2) (omega arith) (c .before .if1 .left) (c .if2 .left) (omega (arith, fits))
+    digits-more _ _ (a .from + i) x (at-loop .loop .inv .2) (omega arith) (c .before .if1 .left) (c .if2 .left)
     in
     (omega arith, small, subst (λ (n : ℕ). DigitsIn (a .s .now) (a .from) n (x * 10 + (b - 48))) next more)
 
@@ -65,7 +64,7 @@ add-t12 : tie.Need-add-t12 Inv-loop μ-loop
 add-t12 c = omega (arith, c .before .loop .inv .2 .within)
 
 returns : tie.Need-returns Inv-loop μ-loop
-returns c = c .before .loop .inv .2
+returns c = (omega (arith, c .before .loop .inv .0), c .before .loop .inv .2)
 
 pub leading-digits-spec : {M : Type 1} → statement M
 leading-digits-spec =

@@ -157,12 +157,6 @@ decimal-split n x h =
     ∙ padded-split (length (decimal q)) n x
     ∙ ap (λ (d : List ℕ). d ++ padded n (x % 10 ^ n)) (sym (decimal-padded q))
 
--- a number of exactly n + 1 digits
-pub decimal-exact : (n x : ℕ) → 10 ^ n ≤ x → x / 10 ^ n < 10 → decimal x ≡ padded (suc n) x
-decimal-exact n x low high =
-    decimal-padded x
-    ∙ ap (λ (k : ℕ). padded k x) (count-split n x low ∙ ap (λ (k : ℕ). k + n) (count-small (x / 10 ^ n) high) ∙ omega arith)
-
 pub spaced-append : (xs ys : List ℕ) → spaced (xs ++ ys) ≡ spaced xs ++ spaced ys
 unfolding spaced
 spaced-append [] ys = refl

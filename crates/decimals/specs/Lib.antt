@@ -1,3 +1,4 @@
 -- Numbers in decimal, and laws about them. Assumes nothing.
 pub mod Decimal
 pub mod DecimalLaws
+pub mod Leading

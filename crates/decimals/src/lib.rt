@@ -1,7 +1,7 @@
 // Decimals, and single bytes, written into a slice at a place. Each function answers the place after what it wrote.
 ghost use mathlib.Core.List.{[], _∷_};
 ghost use mathlib.Core.Path.{_≡_};
-ghost use Prim.Native.Nat.{_+_, _<_, _≤_};
+ghost use Prim.Native.Nat.{_+_, _%_, _<_, _≤_, min};
 ghost use lib.ListN.{length};
 ghost use Rattle.decimals.specs.Decimal.{decimal, spaced};
 ghost use Rattle.decimals.specs.DecimalLaws.{padded};
@@ -42,22 +42,25 @@ fn put_eight(out: &mut [u8], at: usize, x: u32) -> usize
     put_four(out, half, x % 10000)
 }
 
-// Writes a number of at most four digits in decimal.
+// Writes the last digit of y. Where y is 0 it answers the place of that digit, and not the one after it, so that the next digit
+// takes the place of a zero in front of a number.
+fn put_leading(out: &mut [u8], at: usize, y: u32) -> usize
+    requires { ⌜ at < length (now out) ⌝ }
+    ensures { λ r. ⌜ (r ≡ at + min y 1) × (now (out .exit) ≡ splice (now (out .entry)) at ((y % 10 + 48) ∷ [])) ⌝ }
+{
+    out[at] = digit(y % 10);
+    if 0 < y { at + 1 } else { at }
+}
+
+// Writes a number of at most four digits in decimal, by the same steps however many it has: no jump depends on that.
 fn put_to_four(out: &mut [u8], at: usize, x: u32) -> usize
     requires { ⌜ (at + 4 ≤ length (now out)) × (x < 10000) ⌝ }
     ensures { λ r. ⌜ (r ≡ at + length (decimal x)) × (now (out .exit) ≡ splice (now (out .entry)) at (decimal x)) ⌝ }
 {
-    if x < 10 {
-        return put_byte(out, at, digit(x));
-    }
-    if x < 100 {
-        return put_two(out, at, x);
-    }
-    if x < 1000 {
-        let rest = put_byte(out, at, digit(x / 100));
-        return put_two(out, rest, x % 100);
-    }
-    put_four(out, at, x)
+    let second = put_leading(out, at, x / 1000);
+    let third = put_leading(out, second, x / 100);
+    let last = put_leading(out, third, x / 10);
+    put_byte(out, last, digit(x % 10))
 }
 
 // Writes a number of at most eight digits in decimal.

@@ -1,0 +1,49 @@
+-- `decimals::put_leading` meets its contract: one store splices the digit in, and each branch answers the place that y asks for.
+-- Assumes nothing.
+use mathlib.Core.List.{List, [], _∷_}
+use mathlib.Core.Path.{_≡_, ap, _∙_}
+use Prim.Native.Nat.{ℕ, _<_}
+use native.Mathlib.Omega.{arith}
+use borrow.Author.Needs.{needs}
+use lib.ListN.{length, set}
+use Rattle.splice.specs.Splice.{splice}
+use Rattle.splice.specs.Laws.{splice-one}
+use Rattle.decimals.proofs.put_leading.Statement.{statement}
+use Rattle.decimals.proofs.put_leading.Tie as tie
+
+-- a store of a byte that is d
+stored : (l : List ℕ) (at b d : ℕ) → at < length l → b ≡ d → set l at b ≡ splice l at (d ∷ [])
+stored l at b d h e = splice-one l at b h ∙ ap (λ (k : ℕ). splice l at (k ∷ [])) e
+
+digit-requires : tie.Need-digit-requires
+digit-requires c κs = search needs
+
+slice-write-out : tie.Need-slice-write-out
+slice-write-out c = search needs
+
+add-result : tie.Need-add-result
+add-result c = search needs
+
+same-length : tie.Need-same-length
+same-length c = search needs
+
+returns : tie.Need-returns
+returns c = (omega arith, stored _ _ _ _ (c .before .before .before .pre) (c .before .digit .ensures))
+
+same-length-2 : tie.Need-same-length-2
+same-length-2 c = search needs
+
+returns-2 : tie.Need-returns-2
+returns-2 c = (omega arith, stored _ _ _ _ (c .before .before .before .pre) (c .before .digit .ensures))
+
+pub put-leading-spec : {M : Type 1} → statement M
+put-leading-spec =
+    tie.close
+    (tie.spec
+    digit-requires
+    slice-write-out
+    add-result
+    same-length
+    returns
+    same-length-2
+    returns-2)

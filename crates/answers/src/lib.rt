@@ -3,9 +3,10 @@
 ghost use mathlib.Core.Path.{_≡_};
 ghost use Prim.Native.Nat.{_+_, _≤_};
 ghost use lib.ListN.{length};
-ghost use Rattle.answers.specs.Answers.{textOf, aboutLine, unreadableText, printed};
+ghost use Rattle.answers.specs.Answers.{textOf, aboutLine, unreadableText, printedFor, printed};
 ghost use Rattle.rating.specs.Rate.{answerOf};
 ghost use Rattle.decimals.specs.Decimal.{spaced};
+ghost use Rattle.text.specs.Answer.{saidOf};
 ghost use Rattle.splice.specs.Splice.{splice};
 use decimals::put_byte;
 use decimals::put_decimal;
@@ -13,6 +14,7 @@ use decimals::put_number;
 use rating::rate::Rated;
 use rating::rate::rate;
 use text::bytes::put_bytes;
+use text::line::Read;
 use text::line::read_line;
 
 // Room for what is printed for any line.
@@ -69,14 +71,13 @@ fn put_unreadable(out: &mut [u8], at: usize, number: u64) -> usize
     put_about(out, at, number, b": unreadable\n")
 }
 
-// Writes what is printed for a line, given its number and its bytes without the line feed.
-pub fn print_line(out: &mut [u8], at: usize, number: u64, line: &[u8]) -> usize
+// Writes what is printed for a line, given its number and what it says.
+pub fn print_said(out: &mut [u8], at: usize, number: u64, said: Read) -> usize
     requires { ⌜ at + 512 ≤ length (now out) ⌝ }
-    ensures { λ r. ⌜ (r ≡ at + length (printed number (now (line .entry))))
-        × (now (out .exit) ≡ splice (now (out .entry)) at (printed number (now (line .entry)))) ⌝ }
+    ensures { λ r. ⌜ (r ≡ at + length (printedFor number (saidOf said)))
+        × (now (out .exit) ≡ splice (now (out .entry)) at (printedFor number (saidOf said))) ⌝ }
     ensures { λ r. ⌜ r ≤ at + 512 ⌝ }
 {
-    let said = read_line(line);
     if said.kind == 0 {
         return at;
     }
@@ -85,4 +86,14 @@ pub fn print_line(out: &mut [u8], at: usize, number: u64, line: &[u8]) -> usize
         return put_answer(out, at, rate(fields));
     }
     put_unreadable(out, at, number)
+}
+
+// Writes what is printed for a line, given its number and its bytes without the line feed.
+pub fn print_line(out: &mut [u8], at: usize, number: u64, line: &[u8]) -> usize
+    requires { ⌜ at + 512 ≤ length (now out) ⌝ }
+    ensures { λ r. ⌜ (r ≡ at + length (printed number (now (line .entry))))
+        × (now (out .exit) ≡ splice (now (out .entry)) at (printed number (now (line .entry)))) ⌝ }
+    ensures { λ r. ⌜ r ≤ at + 512 ⌝ }
+{
+    print_said(out, at, number, read_line(line))
 }

@@ -1,11 +1,16 @@
 // Standard input, line by line, in two buffers that the caller lends: a chunk as it was read, and the line that is gathered from
 // chunks. Memory does not grow with the input, and a budget of reads makes every loop end.
+ghost use mathlib.Core.Bool.{true};
 ghost use mathlib.Core.Path.{_≡_};
 ghost use Prim.Native.Nat.{_≤_};
-ghost use lib.ListN.{length};
-ghost use Rattle.input.specs.State.{Ready, Given};
+ghost use lib.ListN.{length, take};
+ghost use Rattle.input.specs.State.{Ready, Given, saidHere};
+ghost use Rattle.lines.specs.Standing.{standing};
+use lines::read_at;
 use text::gather::keep;
 use text::gather::line_feed;
+use text::line::Read;
+use text::line::read_line;
 
 // Where reading stands: the chunk's bytes from `at` to `end` are still to come, and so many reads are left.
 pub struct Input {
@@ -18,6 +23,13 @@ pub struct Input {
 pub struct Line {
     pub found: bool,
     pub len: usize,
+    pub next: Input,
+}
+
+// What the line says, if there was one.
+pub struct Said {
+    pub found: bool,
+    pub said: Read,
     pub next: Input,
 }
 
@@ -101,4 +113,36 @@ pub fn next_line(chunk: &mut [u8], line: &mut [u8], from: Input) -> Line
         reads -= 1;
     }
     last(len)
+}
+
+// What the next line says. A line that the chunk has to its line feed is read there, and any other is gathered in `line` first.
+pub fn next_said(chunk: &mut [u8], line: &mut [u8], from: Input) -> Said
+    requires { ⌜ Ready from (length (now chunk)) ⌝ }
+    ensures { λ r. ⌜ Ready (r .next) (length (now (chunk .exit))) ⌝ }
+    ensures { λ r. ⌜ (let here = standing (take (from .end) (now (chunk .entry))) (from .at) in
+        here .whole ≡ true → r ≡ saidHere here from) ⌝ }
+{
+    let at = from.at;
+    let end = from.end;
+    let here = read_at(&chunk[..end], at);
+    if here.whole {
+        let said = here.said;
+        return Said {
+            found: true,
+            said,
+            next: Input {
+                at: here.to + 1,
+                end,
+                reads: from.reads,
+            },
+        };
+    }
+    let got = next_line(chunk, line, from);
+    let len = got.len;
+    let next = got.next;
+    Said {
+        found: got.found,
+        said: read_line(&line[..len]),
+        next,
+    }
 }

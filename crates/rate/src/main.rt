@@ -1,15 +1,16 @@
 // Reads cases from standard input, one to a line, and prints for each its answer, rating and sheet. What is printed for a line is
-// `answers::print_line`; here are the buffers, the loop over the lines and the writing.
+// `answers::print_said`; here are the buffers, the loop over the lines and the writing.
 ghost use Prim.Native.Nat.{_+_, _≤_};
 ghost use lib.ListN.{length};
 use output::send;
+use text::line::Read;
 
-// One line's text in `out`, which is sent on where it might not take another.
-fn answer(out: &mut [u8], used: usize, number: u64, line: &[u8], len: usize) -> usize
-    requires { ⌜ (used + 512 ≤ length (now out)) × (len ≤ length (now line)) ⌝ }
+// What is printed for one line in `out`, which is sent on where it might not take another.
+fn answer(out: &mut [u8], used: usize, number: u64, said: Read) -> usize
+    requires { ⌜ used + 512 ≤ length (now out) ⌝ }
     ensures { λ r. ⌜ r + 512 ≤ length (now (out .exit)) ⌝ }
 {
-    let end = answers::print_line(out, used, number, &line[..len]);
+    let end = answers::print_said(out, used, number, said);
     if out.len() - end < 512 {
         send(out, end);
         return 0;
@@ -24,13 +25,14 @@ fn serve(chunk: &mut [u8], line: &mut [u8], out: &mut [u8])
     let mut used: usize = 0;
     let mut number: u64 = 0;
     while number < u64::MAX {
-        let next = input::next_line(chunk, line, from);
+        let next = input::next_said(chunk, line, from);
         if !next.found {
             send(out, used);
             return;
         }
         number += 1;
-        used = answer(out, used, number, line, next.len);
+        let said = next.said;
+        used = answer(out, used, number, said);
         from = next.next;
     }
     send(out, used);

@@ -4,6 +4,7 @@ ghost use Prim.Native.Nat.{_≤_};
 ghost use lib.ListN.{length};
 use libc::STDOUT_FILENO;
 use output::send;
+use text::line::Read;
 
 // A heading with the case's line number, and its sheet.
 fn show_case(out: &mut [u8], number: u64, x: [u32; 26]) {
@@ -15,17 +16,15 @@ fn show_case(out: &mut [u8], number: u64, x: [u32; 26]) {
 }
 
 // A line that is no case has the text that the program rate prints for it.
-fn show(out: &mut [u8], number: u64, line: &[u8], len: usize)
-    requires { ⌜ (512 ≤ length (now out)) × (len ≤ length (now line)) ⌝ }
+fn show(out: &mut [u8], number: u64, said: Read)
+    requires { ⌜ 512 ≤ length (now out) ⌝ }
 {
-    let part = &line[..len];
-    let said = text::line::read_line(part);
     if said.kind == 1 {
         let fields = said.fields;
         show_case(out, number, fields);
         return;
     }
-    let used = answers::print_line(out, 0, number, part);
+    let used = answers::print_said(out, 0, number, said);
     send(out, used);
 }
 
@@ -35,12 +34,13 @@ fn serve(chunk: &mut [u8], line: &mut [u8], out: &mut [u8])
     let mut from = input::start();
     let mut number: u64 = 0;
     while number < u64::MAX {
-        let next = input::next_line(chunk, line, from);
+        let next = input::next_said(chunk, line, from);
         if !next.found {
             return;
         }
         number += 1;
-        show(out, number, line, next.len);
+        let said = next.said;
+        show(out, number, said);
         from = next.next;
     }
 }

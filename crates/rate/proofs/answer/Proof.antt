@@ -1,15 +1,10 @@
 -- `answer` leaves room for another line.
-use mathlib.Core.Path.{sym}
-use lib.Seq.{length-take-le}
 use borrow.Author.Needs.{needs}
 use Rattle.rate.proofs.answer.Statement.{statement}
 use Rattle.rate.proofs.answer.Tie as tie
 
-slice-aggregate-print-line : tie.Need-slice-aggregate-print-line
-slice-aggregate-print-line c = sym (length-take-le _ _ (c .before .before .before .before .pre .1))
-
-print-line-requires : tie.Need-print-line-requires
-print-line-requires c κs = search needs
+print-said-requires : tie.Need-print-said-requires
+print-said-requires c κs = search needs
 
 sub-if1 : tie.Need-sub-if1
 sub-if1 c = search needs
@@ -33,8 +28,7 @@ pub answer-spec : {M : Type 1} → statement M
 answer-spec =
     tie.close
     (tie.spec
-    slice-aggregate-print-line
-    print-line-requires
+    print-said-requires
     sub-if1
     send-requires
     same-length

@@ -22,8 +22,8 @@ start-requires c κs = search needs
 loop-holds : tie.Need-loop-holds Inv-loop μ-loop
 loop-holds c = search needs
 
-next-line-requires : tie.Need-next-line-requires Inv-loop μ-loop
-next-line-requires c κs = search needs
+next-said-requires : tie.Need-next-said-requires Inv-loop μ-loop
+next-said-requires c κs = search needs
 
 send-requires : tie.Need-send-requires Inv-loop μ-loop
 send-requires c κs = search needs
@@ -75,7 +75,7 @@ serve-spec =
     μ-loop
     start-requires
     loop-holds
-    next-line-requires
+    next-said-requires
     send-requires
     same-length
     same-length-2

@@ -22,8 +22,8 @@ start-requires c κs = search needs
 loop-holds : tie.Need-loop-holds Inv-loop μ-loop
 loop-holds c = search needs
 
-next-line-requires : tie.Need-next-line-requires Inv-loop μ-loop
-next-line-requires c κs = search needs
+next-said-requires : tie.Need-next-said-requires Inv-loop μ-loop
+next-said-requires c κs = search needs
 
 same-length : tie.Need-same-length Inv-loop μ-loop
 same-length c = search needs
@@ -69,7 +69,7 @@ serve-spec =
     μ-loop
     start-requires
     loop-holds
-    next-line-requires
+    next-said-requires
     same-length
     same-length-2
     same-length-3

@@ -1,0 +1,58 @@
+-- `lines::number::negative_at` meets its contract: after a minus sign, digits to 2147483648 are a number.
+-- Assumes nothing.
+use native.Mathlib.Omega.{arith}
+use borrow.Author.Needs.{needs}
+use Rattle.bools.specs.Tests.{other-outcome}
+use Rattle.lines.specs.NumberAt.{with-sign}
+use Rattle.lines.proofs.number.negative_at.Statement.{statement}
+use Rattle.lines.proofs.number.negative_at.Tie as tie
+
+shared-slice-read-if1 : tie.Need-shared-slice-read-if1
+shared-slice-read-if1 c = search needs
+
+add-leading-digits : tie.Need-add-leading-digits
+add-leading-digits c = search needs
+
+leading-digits-requires : tie.Need-leading-digits-requires
+leading-digits-requires c κs = search needs
+
+add-is-number : tie.Need-add-is-number
+add-is-number c = search needs
+
+is-number-requires : tie.Need-is-number-requires
+is-number-requires c κs = search needs
+
+sub-t10 : tie.Need-sub-t10
+sub-t10 c = omega (arith, c .before .before .is-number .ensures (c .before .if2 .taken) .1)
+
+cast-t12 : tie.Need-cast-t12
+cast-t12 c = search needs
+
+returns : tie.Need-returns
+returns c found =
+    let at-test = c .before .before in
+    let number = at-test .is-number .ensures (c .before .if2 .taken) in
+    let digits = at-test .before .leading-digits .ensures in
+    let at-sign = at-test .before .before in
+    with-sign (at-sign .before .before .before .pre) (at-sign .if1 .taken) (digits .1) (number .0) (digits .0) (number .1)
+
+no-number-requires : tie.Need-no-number-requires
+no-number-requires c κs = search needs
+
+returns-2 : tie.Need-returns-2
+returns-2 c = other-outcome _ (c .no-number .ensures)
+
+pub negative-at-spec : {M : Type 1} → statement M
+negative-at-spec =
+    tie.close
+    (tie.spec
+    shared-slice-read-if1
+    add-leading-digits
+    leading-digits-requires
+    add-is-number
+    is-number-requires
+    sub-t10
+    cast-t12
+    returns
+    no-number-requires
+    returns-2)

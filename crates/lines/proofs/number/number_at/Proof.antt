@@ -1,0 +1,40 @@
+-- `lines::number::number_at` meets its contract: digits to 4294967295 are a number, and so may be what begins with a minus sign.
+-- Assumes nothing.
+use native.Mathlib.Omega.{arith}
+use borrow.Author.Needs.{needs}
+use Rattle.lines.specs.NumberAt.{without-sign}
+use Rattle.lines.proofs.number.number_at.Statement.{statement}
+use Rattle.lines.proofs.number.number_at.Tie as tie
+
+leading-digits-requires : tie.Need-leading-digits-requires
+leading-digits-requires c κs = search needs
+
+is-number-requires : tie.Need-is-number-requires
+is-number-requires c κs = search needs
+
+cast-t6 : tie.Need-cast-t6
+cast-t6 c = omega (arith, c .before .before .is-number .ensures (c .before .if1 .taken) .1)
+
+returns : tie.Need-returns
+returns c found =
+    let at-test = c .before .before in
+    let number = at-test .is-number .ensures (c .before .if1 .taken) in
+    let digits = at-test .before .leading-digits .ensures in
+    without-sign (at-test .before .before .before .pre) (digits .1) (number .0) (digits .0) (number .1)
+
+negative-at-requires : tie.Need-negative-at-requires
+negative-at-requires c κs = search needs
+
+returns-2 : tie.Need-returns-2
+returns-2 c = search needs
+
+pub number-at-spec : {M : Type 1} → statement M
+number-at-spec =
+    tie.close
+    (tie.spec
+    leading-digits-requires
+    is-number-requires
+    cast-t6
+    returns
+    negative-at-requires
+    returns-2)

@@ -34,7 +34,7 @@ const RATE: &str = "target/bin/rate";
 const LIST: &str = "target/bin/list";
 const INPUTS: &str = "target/bench";
 
-const ROUNDS: usize = 11;
+const ROUNDS: usize = 31;
 const MANY: usize = 100_000;
 const FEW: usize = 1_000;
 

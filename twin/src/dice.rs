@@ -1,5 +1,5 @@
 // A small generator of pseudo-random numbers, the same in every run, from
-// which the tests and make-books draw.
+// which the tests, make-books and make-lines draw.
 
 pub struct Dice(pub u64);
 

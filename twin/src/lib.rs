@@ -7,6 +7,7 @@ pub mod book;
 pub mod dice;
 pub mod drawn_books;
 pub mod drawn_cases;
+pub mod drawn_lines;
 pub mod ends;
 pub mod exact_rise;
 pub mod figure;

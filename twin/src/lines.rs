@@ -6,7 +6,7 @@ use crate::rating::rate;
 use std::io::{self, BufRead, Write};
 
 /// The longest line read, in bytes, its line feed not counted.
-const LONGEST_LINE: usize = 1023;
+pub const LONGEST_LINE: usize = 1023;
 
 /// What a line turned out to be.
 #[derive(Debug, PartialEq, Eq)]

@@ -7,6 +7,7 @@ mod agreement;
 mod book;
 mod cases;
 mod drawn_books;
+mod drawn_lines;
 mod edges;
 mod exact;
 mod lines;

@@ -1,15 +1,16 @@
 -- Digits that stand in a line from one place to another: how a loop that reads them goes on by one, and that they are a word, and what
 -- it says, where no word goes on after them. Assumes nothing.
-use mathlib.Core.Bool.{true}
+use mathlib.Core.Bool.{Bool, true, false, _&&_, and-false}
 use mathlib.Core.List.{List, [], _∷_}
 use mathlib.Core.Path.{_≡_, refl, ap, _∙_}
-use Prim.Native.Nat.{ℕ, _+_, _-_, _*_, _^_, _≤_, _<_}
+use Prim.Native.Nat.{ℕ, _+_, _-_, _*_, _^_, _≤_, _<_, min}
 use native.Mathlib.Nat.{le-refl, lt-of-lt-of-le, pow-suc, pow-le-pow-right}
 use native.Mathlib.Numerals.{add-one}
 use native.Mathlib.Omega.{arith}
-use borrow.Author.Tests.{le-leb, ne-eqb}
-use lib.Dec.{lit<}
+use borrow.Author.Tests.{le-leb, lt-leb, ne-eqb, ltb-true, leb-true}
+use lib.Dec.{leb, ltb, lit<}
 use lib.ListN.{length, getD, drop}
+use Rattle.bools.specs.Tests.{both}
 use Rattle.text.specs.declared.number.Reading.the-variants.{Number}
 use Rattle.text.specs.Gather.{piece}
 use Rattle.text.specs.Number.{isDigit, every, valueFrom, value, readDigits, readNumber}
@@ -17,6 +18,26 @@ use Rattle.text.specs.NumberLaws.{every-append, every-at, every-weaker, 
 use Rattle.text.specs.Pieces.{piece-none, piece-more, piece-length, piece-then}
 use Rattle.text.specs.WordLaws.{digit-ink, run-past}
 use Rattle.text.specs.Words.{isInk, run}
+
+-- where the digits from `from` on end, of which at most ten are taken
+unfoldable pub digitsEnd : List ℕ → ℕ → ℕ
+digitsEnd s from = min (from + 10) (from + run isDigit (drop from s))
+
+pub digits-near : (s : List ℕ) (from to : ℕ) → to ≡ digitsEnd s from → to ≤ from + 10
+unfolding digitsEnd
+digits-near s from to e = omega arith
+
+pub is-digit : (b : ℕ) → 48 ≤ b → b ≤ 57 → isDigit b ≡ true
+unfolding isDigit
+is-digit b low high = simp (le-leb 48 b low, le-leb b 57 high)
+
+pub is-below-digits : (b : ℕ) → b < 48 → isDigit b ≡ false
+unfolding isDigit
+is-below-digits b low = simp (lt-leb 48 b low)
+
+pub is-above-digits : (b : ℕ) → 57 < b → isDigit b ≡ false
+unfolding isDigit
+is-above-digits b high = simp (lt-leb b 57 high, and-false)
 
 -- digits of the value x
 pub record DigitsIn (s : List ℕ) (from to x : ℕ) : Type 0 where
@@ -37,16 +58,26 @@ digits-none s from h =
 
 pub digits-more : (s : List ℕ) (from i x : ℕ) → DigitsIn s from i x → i < length s → 48 ≤ getD s i 0 → getD s i 0 ≤ 57
     → DigitsIn s from (i + 1) (x * 10 + (getD s i 0 - 48))
-unfolding every value isDigit
+unfolding every value
 digits-more s from i x d k low high =
     let b = getD s i 0 in
     let more = piece-more s from i (d .forward) k in
     record {
       forward = omega arith;
       within = omega arith;
-      digits = ap (every isDigit) more ∙ every-append isDigit (piece from i s) (b ∷ []) (d .digits) (simp (le-leb _ _ low, le-leb _ _ high));
+      digits = ap (every isDigit) more ∙ every-append isDigit (piece from i s) (b ∷ []) (d .digits) (rw (is-digit b low high));
       amount = ap value more ∙ value-snoc 0 (piece from i s) b ∙ ap (λ (v : ℕ). v * 10 + (b - 48)) (d .amount);
     }
+
+-- whether digits from `from` to `to`, of the value x, are a number of at most `limit`
+unfoldable pub isNumber : ℕ → ℕ → ℕ → ℕ → Bool
+isNumber from to x limit = ltb from to && leb x limit
+
+pub number-test : (from to x limit : ℕ) → isNumber from to x limit ≡ true → (from < to) × (x ≤ limit)
+unfolding isNumber
+number-test from to x limit e =
+    let tests = both (ltb from to) (leb x limit) e in
+    (ltb-true from to (tests .0), leb-true x limit (tests .1))
 
 -- after i digits a value is below 10^i
 pub small-more : (i x b : ℕ) → x < 10 ^ i → b ≤ 57 → x * 10 + (b - 48) < 10 ^ (i + 1)

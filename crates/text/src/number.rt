@@ -1,9 +1,8 @@
 // A word read as a number.
-ghost use mathlib.Core.Bool.{true};
 ghost use mathlib.Core.Path.{_≡_};
-ghost use Prim.Native.Nat.{_+_, _≤_, _<_};
+ghost use Prim.Native.Nat.{_+_, _≤_};
 ghost use lib.ListN.{length};
-ghost use Rattle.text.specs.Leading.{DigitsIn};
+ghost use Rattle.text.specs.Leading.{DigitsIn, digitsEnd, isNumber};
 ghost use Rattle.text.specs.Number.{readDigits, readNumber};
 
 // What a word says.
@@ -61,11 +60,11 @@ pub struct Leading {
     pub value: u64,
 }
 
-// The digits from `from` on, of the ten bytes there, as many as a number of 32 bits has: these fit 64 bits, so that no limit is tried
-// on the way, and the compiler writes the loop out.
+// The digits from `from` on, at most ten, as many as a number of 32 bits has: these fit 64 bits, so that no limit is tried on the way,
+// and the compiler writes the loop out.
 pub fn leading_digits(s: &[u8], from: usize) -> Leading
     requires { ⌜ from + 10 ≤ length (now s) ⌝ }
-    ensures { λ r. ⌜ (r .to ≤ from + 10) × DigitsIn (now (s .entry)) from (r .to) (r .value) ⌝ }
+    ensures { λ r. ⌜ (r .to ≡ digitsEnd (now (s .entry)) from) × DigitsIn (now (s .entry)) from (r .to) (r .value) ⌝ }
 {
     let mut value: u64 = 0;
     let mut i: usize = 0;
@@ -88,7 +87,7 @@ pub fn leading_digits(s: &[u8], from: usize) -> Leading
 
 // Whether digits from `from` to `to` are a number of at most `limit`.
 pub fn is_number(from: usize, to: usize, value: u64, limit: u64) -> bool
-    ensures { λ r. ⌜ (r ≡ true → (from < to) × (value ≤ limit)) ⌝ }
+    ensures { λ r. ⌜ r ≡ isNumber from to value limit ⌝ }
 {
     (from < to) & (value <= limit)
 }

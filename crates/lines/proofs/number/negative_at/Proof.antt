@@ -1,9 +1,11 @@
 -- `lines::number::negative_at` meets its contract: after a minus sign, digits to 2147483648 are a number.
 -- Assumes nothing.
+use mathlib.Core.Path.{sym, _∙_}
 use native.Mathlib.Omega.{arith}
 use borrow.Author.Needs.{needs}
 use Rattle.bools.specs.Tests.{other-outcome}
 use Rattle.lines.specs.NumberAt.{with-sign}
+use Rattle.text.specs.Leading.{number-test, digits-near}
 use Rattle.lines.proofs.number.negative_at.Statement.{statement}
 use Rattle.lines.proofs.number.negative_at.Tie as tie
 
@@ -23,7 +25,7 @@ is-number-requires : tie.Need-is-number-requires
 is-number-requires c κs = search needs
 
 sub-t10 : tie.Need-sub-t10
-sub-t10 c = omega (arith, c .before .before .is-number .ensures (c .before .if2 .taken) .1)
+sub-t10 c = omega (arith, number-test _ _ _ _ (sym (c .before .before .is-number .ensures) ∙ c .before .if2 .taken) .1)
 
 cast-t12 : tie.Need-cast-t12
 cast-t12 c = search needs
@@ -31,10 +33,10 @@ cast-t12 c = search needs
 returns : tie.Need-returns
 returns c found =
     let at-test = c .before .before in
-    let number = at-test .is-number .ensures (c .before .if2 .taken) in
+    let number = number-test _ _ _ _ (sym (at-test .is-number .ensures) ∙ c .before .if2 .taken) in
     let digits = at-test .before .leading-digits .ensures in
     let at-sign = at-test .before .before in
-    with-sign (at-sign .before .before .before .pre) (at-sign .if1 .taken) (digits .1) (number .0) (digits .0) (number .1)
+    with-sign (at-sign .before .before .before .pre) (at-sign .if1 .taken) (digits .1) (number .0) (digits-near _ _ _ (digits .0)) (number .1)
 
 no-number-requires : tie.Need-no-number-requires
 no-number-requires c κs = search needs

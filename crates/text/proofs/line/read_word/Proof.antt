@@ -1,11 +1,11 @@
 -- `text::line::read_word` meets its contract: at most ten digits after which no word goes on are the word, and any other word is
 -- read from its start to its end.
 -- Assumes nothing.
-use mathlib.Core.Path.{sym}
+use mathlib.Core.Path.{sym, _∙_}
 use native.Mathlib.Omega.{arith}
 use borrow.Author.Needs.{needs}
 use Rattle.text.specs.Gather.{piece}
-use Rattle.text.specs.Leading.{word-ends, word-says}
+use Rattle.text.specs.Leading.{number-test, word-ends, word-says}
 use Rattle.text.specs.Runs.{run-within}
 use Rattle.text.specs.Words.{isInk}
 use Rattle.text.proofs.line.read_word.Statement.{statement}
@@ -26,13 +26,13 @@ is-past-word-requires c κs = search needs
 cast-t12 : tie.Need-cast-t12
 cast-t12 c =
     let at-test = c .before .before .before in
-    omega (arith, at-test .before .is-number .ensures (at-test .if2 .taken) .1)
+    omega (arith, number-test _ _ _ _ (sym (at-test .before .is-number .ensures) ∙ at-test .if2 .taken) .1)
 
 returns : tie.Need-returns
 returns c =
     let past = c .before .before .is-past-word .ensures (c .before .if3 .taken) in
     let at-test = c .before .before .before in
-    let number = at-test .before .is-number .ensures (at-test .if2 .taken) in
+    let number = number-test _ _ _ _ (sym (at-test .before .is-number .ensures) ∙ at-test .if2 .taken) in
     let digits = at-test .before .before .leading-digits .ensures .1 in
     (word-ends _ _ _ _ digits past, sym (word-says _ _ _ _ digits (number .0) (number .1)))
 

@@ -1,4 +1,4 @@
-// Decimals, and single bytes, written into a slice at a place. Each function answers the place after what it wrote.
+// Decimals, and single bytes, written into a slice at a place. Each function answers the place where the next byte goes.
 ghost use mathlib.Core.List.{[], _∷_};
 ghost use mathlib.Core.Path.{_≡_};
 ghost use Prim.Native.Nat.{_+_, _%_, _<_, _≤_, min};

@@ -15,6 +15,7 @@ use lib.Seq.{drop-cons}
 use Rattle.text.specs.declared.number.Reading.{Reading}
 use Rattle.text.specs.declared.number.Reading.the-variants.{Number, Nothing}
 use Rattle.text.specs.Number.{isDigit, every, valueFrom, value, readDigits}
+use Rattle.text.specs.NumberLaws.{is-digit, is-below-digits, is-above-digits}
 use Rattle.text.specs.Words.{isEmpty}
 
 -- what the digits s say that follow digits of the value x
@@ -40,17 +41,13 @@ step limit x w i false h e = rw (drop-cons w i 0 h, e)
 
 pub onward-digit : (limit x : ℕ) (w : List ℕ) (i : ℕ) → i < length w → 48 ≤ getD w i 0 → getD w i 0 ≤ 57
     → onward limit x (drop i w) ≡ onward limit (x * 10 + (getD w i 0 - 48)) (drop (i + 1) w)
-unfolding isDigit
-onward-digit limit x w i h low high =
-    rw (add-one i) (step limit x w i true h (simp (le-leb _ _ low, le-leb _ _ high)))
+onward-digit limit x w i h low high = rw (add-one i) (step limit x w i true h (is-digit _ low high))
 
 pub onward-low : (limit x : ℕ) (w : List ℕ) (i : ℕ) → i < length w → getD w i 0 < 48 → onward limit x (drop i w) ≡ Nothing
-unfolding isDigit
-onward-low limit x w i h low = step limit x w i false h (simp (lt-leb _ _ low))
+onward-low limit x w i h low = step limit x w i false h (is-below-digits _ low)
 
 pub onward-high : (limit x : ℕ) (w : List ℕ) (i : ℕ) → i < length w → 57 < getD w i 0 → onward limit x (drop i w) ≡ Nothing
-unfolding isDigit
-onward-high limit x w i h high = step limit x w i false h (simp (lt-leb _ _ high, and-false))
+onward-high limit x w i h high = step limit x w i false h (is-above-digits _ high)
 
 -- the value only grows
 grows : (x : ℕ) (s : List ℕ) → x ≤ valueFrom x s

@@ -1,20 +1,20 @@
 -- Digits that stand in a line from one place to another: how a loop that reads them goes on by one, and that they are a word, and what
 -- it says, where no word goes on after them. Assumes nothing.
-use mathlib.Core.Bool.{Bool, true, false, _&&_, and-false}
+use mathlib.Core.Bool.{Bool, true, _&&_}
 use mathlib.Core.List.{List, [], _∷_}
 use mathlib.Core.Path.{_≡_, refl, ap, _∙_}
 use Prim.Native.Nat.{ℕ, _+_, _-_, _*_, _^_, _≤_, _<_, min}
 use native.Mathlib.Nat.{le-refl, lt-of-lt-of-le, pow-suc, pow-le-pow-right}
 use native.Mathlib.Numerals.{add-one}
 use native.Mathlib.Omega.{arith}
-use borrow.Author.Tests.{le-leb, lt-leb, ne-eqb, ltb-true, leb-true}
+use borrow.Author.Tests.{le-leb, ne-eqb, ltb-true, leb-true}
 use lib.Dec.{leb, ltb, lit<}
 use lib.ListN.{length, getD, drop}
 use Rattle.bools.specs.Tests.{both}
 use Rattle.text.specs.declared.number.Reading.the-variants.{Number}
 use Rattle.text.specs.Gather.{piece}
 use Rattle.text.specs.Number.{isDigit, every, valueFrom, value, readDigits, readNumber}
-use Rattle.text.specs.NumberLaws.{every-append, every-at, every-weaker, differ, value-snoc, not-empty}
+use Rattle.text.specs.NumberLaws.{is-digit, every-append, every-at, every-weaker, differ, value-snoc, not-empty}
 use Rattle.text.specs.Pieces.{piece-none, piece-more, piece-length, piece-then}
 use Rattle.text.specs.WordLaws.{digit-ink, run-past}
 use Rattle.text.specs.Words.{isInk, run}
@@ -26,18 +26,6 @@ digitsEnd s from = min (from + 10) (from + run isDigit (drop from s))
 pub digits-near : (s : List ℕ) (from to : ℕ) → to ≡ digitsEnd s from → to ≤ from + 10
 unfolding digitsEnd
 digits-near s from to e = omega arith
-
-pub is-digit : (b : ℕ) → 48 ≤ b → b ≤ 57 → isDigit b ≡ true
-unfolding isDigit
-is-digit b low high = simp (le-leb 48 b low, le-leb b 57 high)
-
-pub is-below-digits : (b : ℕ) → b < 48 → isDigit b ≡ false
-unfolding isDigit
-is-below-digits b low = simp (lt-leb 48 b low)
-
-pub is-above-digits : (b : ℕ) → 57 < b → isDigit b ≡ false
-unfolding isDigit
-is-above-digits b high = simp (lt-leb b 57 high, and-false)
 
 -- digits of the value x
 pub record DigitsIn (s : List ℕ) (from to x : ℕ) : Type 0 where

@@ -1,11 +1,11 @@
--- Laws of reading digits: what `every` says of each byte, and that a number in decimal is read back as itself. Assumes nothing.
-use mathlib.Core.Bool.{Bool, true, false, false≢true}
+-- Laws of reading digits: which bytes are digits, what `every` says of each byte, and that a number in decimal is read back as itself. Assumes nothing.
+use mathlib.Core.Bool.{Bool, true, false, false≢true, and-false}
 use mathlib.Core.List.{List, [], _∷_, _++_}
 use mathlib.Core.Path.{_≡_, refl, sym, ap, _∙_}
 use Prim.Native.Nat.{ℕ, zero, suc, _+_, _-_, _*_, _/_, _%_, _^_, _≤_, _<_}
 use native.Mathlib.Nat.{le-of-suc-le-suc}
 use native.Mathlib.Omega.{arith}
-use borrow.Author.Tests.{le-leb, ne-eqb}
+use borrow.Author.Tests.{le-leb, lt-leb, ne-eqb}
 use lib.ListN.{length, getD}
 use Rattle.bools.specs.Tests.{both}
 use Rattle.text.specs.declared.number.Reading.the-variants.{Number}
@@ -13,6 +13,18 @@ use Rattle.decimals.specs.Decimal.{decimal}
 use Rattle.decimals.specs.DecimalLaws.{decimal-small, decimal-large, decimal-ind, count-positive}
 use Rattle.text.specs.Number.{isDigit, every, valueFrom, value, readDigits, readNumber}
 use Rattle.text.specs.Words.{isEmpty}
+
+pub is-digit : (b : ℕ) → 48 ≤ b → b ≤ 57 → isDigit b ≡ true
+unfolding isDigit
+is-digit b low high = simp (le-leb 48 b low, le-leb b 57 high)
+
+pub is-below-digits : (b : ℕ) → b < 48 → isDigit b ≡ false
+unfolding isDigit
+is-below-digits b low = simp (lt-leb 48 b low)
+
+pub is-above-digits : (b : ℕ) → 57 < b → isDigit b ≡ false
+unfolding isDigit
+is-above-digits b high = simp (lt-leb b 57 high, and-false)
 
 pub every-append : (p : ℕ → Bool) (s t : List ℕ) → every p s ≡ true → every p t ≡ true → every p (s ++ t) ≡ true
 unfolding every
@@ -34,16 +46,9 @@ every-weaker p q f (b ∷ s) h = let k = both (p b) (every p s) h in rw (f b (k 
 pub differ : (p : ℕ → Bool) (b k : ℕ) → p b ≡ true → p k ≡ false → b ≡ k → ⊥
 differ p b k h f e = false≢true (sym f ∙ ap p (sym e) ∙ h)
 
-is-digit : (d : ℕ) → d < 10 → isDigit (d + 48) ≡ true
-unfolding isDigit
-is-digit d h =
-    let low : 48 ≤ d + 48 = omega arith in
-    let high : d + 48 ≤ 57 = omega arith in
-    simp (le-leb 48 (d + 48) low, le-leb (d + 48) 57 high)
-
 one-digit : (d : ℕ) → d < 10 → every isDigit ((d + 48) ∷ []) ≡ true
 unfolding every
-one-digit d h = rw (is-digit d h)
+one-digit d h = rw (is-digit (d + 48) (omega arith) (omega arith))
 
 pub decimal-digits : (x : ℕ) → every isDigit (decimal x) ≡ true
 decimal-digits =

@@ -1,6 +1,6 @@
 // Keeps two cables in a book by the proved library and reads their ratings back.
 #[allow(dead_code)] // this example calls some of the library's functions, not all
-#[path = "../crates/clib/rust/sheafdawn.rs"]
+#[path = "../crates/sheafdawn/rust/sheafdawn.rs"]
 mod sheafdawn;
 
 const CABLE: sheafdawn::Case = [

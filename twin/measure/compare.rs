@@ -5,7 +5,7 @@
 // and the exit status is then not 0.
 // usage: compare SEED CASES BOOKS
 
-#[path = "../../crates/clib/rust/sheafdawn.rs"]
+#[path = "../../crates/sheafdawn/rust/sheafdawn.rs"]
 mod sheafdawn;
 
 use std::process::ExitCode;

@@ -6,7 +6,7 @@
 // usage: instructions OPERATION SIDE COUNT [SEED]
 //   OPERATION is rate, append, accept or read; SIDE is proved or twin
 
-#[path = "../../crates/clib/rust/sheafdawn.rs"]
+#[path = "../../crates/sheafdawn/rust/sheafdawn.rs"]
 mod sheafdawn;
 
 use std::hint::black_box;

@@ -4,7 +4,7 @@
 // twin), and the nanoseconds per item of both. f64 stands beside rate.
 // usage: library [SEED]
 
-#[path = "../../crates/clib/rust/sheafdawn.rs"]
+#[path = "../../crates/sheafdawn/rust/sheafdawn.rs"]
 mod sheafdawn;
 mod timing;
 

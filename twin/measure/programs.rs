@@ -10,7 +10,7 @@
 
 // Only `rate` and `accept` are called here.
 #[allow(dead_code)]
-#[path = "../../crates/clib/rust/sheafdawn.rs"]
+#[path = "../../crates/sheafdawn/rust/sheafdawn.rs"]
 mod sheafdawn;
 mod timing;
 

@@ -1,6 +1,6 @@
 // The proved functions of `wide` beside Rust's own, on the same seeded inputs:
 // first that all results are equal, then the time of both. The proved ones come
-// from the crate `wide_c`, which twin/bench-wide builds and links.
+// from the crate `bench_wide`, which twin/bench-wide builds and links.
 // usage: wide [COUNT [SEED]]
 
 use std::fmt::Debug;
@@ -17,7 +17,7 @@ const TURN: usize = 10_000;
 type Ratio = (u64, u64, u64);
 type Product = (u64, u64);
 
-#[link(name = "wide_c", kind = "static")]
+#[link(name = "bench_wide", kind = "static")]
 extern "C" {
     fn wide_mul_div_down(a: u64, b: u64, c: u64) -> u64;
     fn wide_mul_div_up(a: u64, b: u64, c: u64) -> u64;
@@ -58,7 +58,7 @@ extern "C" fn rust_root(x: u64) -> u64 {
     x.isqrt()
 }
 
-// What the proved functions require, in the terms of crates/wide_c/src/lib.rt.
+// What the proved functions require, in the terms of crates/bench_wide/src/lib.rt.
 // Neither test divides: a·b/c rounded down is below 2^64 where a·b < 2^64·c,
 // and rounded up where a·b ≤ (2^64 - 1)·c.
 

@@ -5,7 +5,7 @@ use Prim.Native.Nat.{ℕ, _+_, _≤_}
 use Rattle.input.specs.declared.Input.{Input}
 use Rattle.input.specs.declared.Line.{Line}
 use Rattle.input.specs.declared.Said.{Said}
-use Rattle.lines.specs.declared.Line as standing
+use Rattle.line_in_place.specs.declared.Line as standing
 
 -- a position within a chunk of n bytes
 pub record Ready (i : Input) (n : ℕ) : Type 0 where

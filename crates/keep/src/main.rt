@@ -3,12 +3,12 @@
 // and no book is written. What is done to the book's bytes is `keeping`; here are the buffers, the reading and the writing.
 ghost use Prim.Native.Nat.{_≤_};
 ghost use lib.ListN.{length};
-use answers::put_about;
 use book::start::start;
-use keeping::add_word;
-use keeping::keep_line;
+use keep_book::add_word;
+use keep_book::keep_line;
 use libc::STDERR_FILENO;
 use output::send;
+use rate_text::put_about;
 
 // Argument i at the front of `word`, and its length; of one longer than `word` as much as fits.
 fn argument(i: usize, word: &mut [u8]) -> usize

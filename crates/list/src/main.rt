@@ -1,4 +1,4 @@
-// Reads a book of at most 65536 bytes from standard input and prints its listing. What is printed is `listing::list_book`; here are the
+// Reads a book of at most 65536 bytes from standard input and prints its listing. What is printed is `list_text::list_book`; here are the
 // buffers, the reading and the writing.
 ghost use Prim.Native.Nat.{_≤_};
 use libc::STDIN_FILENO;
@@ -19,6 +19,6 @@ fn main() {
     let mut book = io::large_buffer();
     let mut out = io::large_buffer();
     let used = io::read_full(STDIN_FILENO, &mut book);
-    let listed = listing::list_book(&book, used + following(used), &mut out);
+    let listed = list_text::list_book(&book, used + following(used), &mut out);
     send(&out, listed.len);
 }

@@ -1,5 +1,5 @@
 // Reads cases from standard input, one to a line, and prints for each its answer, rating and sheet. What is printed for a line is
-// `answers::print_said`; here are the buffers, the loop over the lines and the writing.
+// `rate_text::print_said`; here are the buffers, the loop over the lines and the writing.
 ghost use Prim.Native.Nat.{_+_, _≤_};
 ghost use lib.ListN.{length};
 use output::send;
@@ -10,7 +10,7 @@ fn answer(out: &mut [u8], used: usize, number: u64, said: Read) -> usize
     requires { ⌜ used + 512 ≤ length (now out) ⌝ }
     ensures { λ r. ⌜ r + 512 ≤ length (now (out .exit)) ⌝ }
 {
-    let end = answers::print_said(out, used, number, said);
+    let end = rate_text::print_said(out, used, number, said);
     if out.len() - end < 512 {
         send(out, end);
         return 0;

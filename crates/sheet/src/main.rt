@@ -1,5 +1,5 @@
 // Reads cases from standard input as the program rate does, and prints for each a work sheet for a person. The text of a sheet is
-// `worksheet::work_sheet`; here are the buffers, the loop over the lines and the writing.
+// `sheet_text::work_sheet`; here are the buffers, the loop over the lines and the writing.
 ghost use Prim.Native.Nat.{_≤_};
 ghost use lib.ListN.{length};
 use libc::STDOUT_FILENO;
@@ -11,7 +11,7 @@ fn show_case(out: &mut [u8], number: u64, x: [u32; 26]) {
     io::write_all(STDOUT_FILENO, b"CASE on line ");
     io::print_decimal(STDOUT_FILENO, number);
     io::write_all(STDOUT_FILENO, b"\n");
-    let used = worksheet::work_sheet(out, x, rating::rate::rate(x));
+    let used = sheet_text::work_sheet(out, x, rating::rate::rate(x));
     send(out, used);
 }
 
@@ -24,7 +24,7 @@ fn show(out: &mut [u8], number: u64, said: Read)
         show_case(out, number, fields);
         return;
     }
-    let used = answers::print_said(out, 0, number, said);
+    let used = rate_text::print_said(out, 0, number, said);
     send(out, used);
 }
 

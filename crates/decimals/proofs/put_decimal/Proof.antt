@@ -20,34 +20,10 @@ front x h =
     let same : x / 10000000000000000 ≡ y / 100000000 = omega arith in
     ap (λ (q : ℕ). decimal q ++ padded 8 (y % 100000000)) same ∙ sym (decimal-split 8 y (omega arith))
 
-cast-put-to-eight : tie.Need-cast-put-to-eight
-cast-put-to-eight c = search needs
-
-put-to-eight-requires : tie.Need-put-to-eight-requires
-put-to-eight-requires c κs = search needs
-
-same-length : tie.Need-same-length
-same-length c = search needs
-
-returns : tie.Need-returns
-returns c = search needs
-
-cast-put-to-eight-2 : tie.Need-cast-put-to-eight-2
-cast-put-to-eight-2 c = search needs
-
-put-to-eight-requires-2 : tie.Need-put-to-eight-requires-2
-put-to-eight-requires-2 c κs = search needs
-
-cast-put-eight : tie.Need-cast-put-eight
-cast-put-eight c = search needs
-
 put-eight-requires : tie.Need-put-eight-requires
 put-eight-requires c κs =
     let x = c .before .before .before .before .before .before .before .before .args .x in
     (omega (arith, count-below 7 (x / 100000000) (omega arith)), omega arith)
-
-same-length-2 : tie.Need-same-length-2
-same-length-2 c = search needs
 
 returns-2 : tie.Need-returns-2
 unfolding padded
@@ -58,30 +34,15 @@ returns-2 c =
     put-as _ _ (sym (decimal-split 8 x (omega arith)))
     (put-then _ _ (decimal (x / 100000000)) (padded 8 (x % 100000000)) (omega arith) (first .put-to-eight2 .ensures) (second .put-eight .ensures))
 
-cast-put-to-eight-3 : tie.Need-cast-put-to-eight-3
-cast-put-to-eight-3 c = search needs
-
-put-to-eight-requires-3 : tie.Need-put-to-eight-requires-3
-put-to-eight-requires-3 c κs = search needs
-
-cast-put-eight-2 : tie.Need-cast-put-eight-2
-cast-put-eight-2 c = search needs
-
 put-eight-requires-2 : tie.Need-put-eight-requires-2
 put-eight-requires-2 c κs =
     let x = c .before .before .before .before .before .before .before .before .args .x in
     (omega (arith, count-below 3 (x / 10000000000000000) (omega arith)), omega arith)
 
-cast-put-eight-3 : tie.Need-cast-put-eight-3
-cast-put-eight-3 c = search needs
-
 put-eight-requires-3 : tie.Need-put-eight-requires-3
 put-eight-requires-3 c κs =
     let x = c .before .before .before .before .before .before .before .before .before .before .before .before .args .x in
     (omega (arith, count-below 3 (x / 10000000000000000) (omega arith)), omega arith)
-
-same-length-3 : tie.Need-same-length-3
-same-length-3 c = search needs
 
 returns-3 : tie.Need-returns-3
 unfolding padded
@@ -101,21 +62,21 @@ pub put-decimal-spec : {M : Type 1} → statement M
 put-decimal-spec =
     tie.close
     (tie.spec
-    cast-put-to-eight
-    put-to-eight-requires
-    same-length
-    returns
-    cast-put-to-eight-2
-    put-to-eight-requires-2
-    cast-put-eight
+    (λ c. search needs)
+    (λ c κs. search needs)
+    (λ c. search needs)
+    (λ c. search needs)
+    (λ c. search needs)
+    (λ c κs. search needs)
+    (λ c. search needs)
     put-eight-requires
-    same-length-2
+    (λ c. search needs)
     returns-2
-    cast-put-to-eight-3
-    put-to-eight-requires-3
-    cast-put-eight-2
+    (λ c. search needs)
+    (λ c κs. search needs)
+    (λ c. search needs)
     put-eight-requires-2
-    cast-put-eight-3
+    (λ c. search needs)
     put-eight-requires-3
-    same-length-3
+    (λ c. search needs)
     returns-3)

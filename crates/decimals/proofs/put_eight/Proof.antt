@@ -9,15 +9,6 @@ use Rattle.decimals.specs.DecimalLaws.{padded, padded-split}
 use Rattle.decimals.proofs.put_eight.Statement.{statement}
 use Rattle.decimals.proofs.put_eight.Tie as tie
 
-put-four-requires : tie.Need-put-four-requires
-put-four-requires c κs = search needs
-
-put-four-requires-2 : tie.Need-put-four-requires-2
-put-four-requires-2 c κs = search needs
-
-same-length : tie.Need-same-length
-same-length c = search needs
-
 returns : tie.Need-returns
 unfolding padded
 returns c =
@@ -28,4 +19,4 @@ returns c =
     (put-then _ _ (padded 4 (x / 10000)) (padded 4 (x % 10000)) (omega arith) (first .put-four .ensures) (second .put-four2 .ensures))
 
 pub put-eight-spec : {M : Type 1} → statement M
-put-eight-spec = tie.close (tie.spec put-four-requires put-four-requires-2 same-length returns)
+put-eight-spec = tie.close (tie.spec (λ c κs. search needs) (λ c κs. search needs) (λ c. search needs) returns)

@@ -9,15 +9,6 @@ use Rattle.decimals.specs.DecimalLaws.{padded, padded-split}
 use Rattle.decimals.proofs.put_four.Statement.{statement}
 use Rattle.decimals.proofs.put_four.Tie as tie
 
-put-two-requires : tie.Need-put-two-requires
-put-two-requires c κs = search needs
-
-put-two-requires-2 : tie.Need-put-two-requires-2
-put-two-requires-2 c κs = search needs
-
-same-length : tie.Need-same-length
-same-length c = search needs
-
 returns : tie.Need-returns
 unfolding padded
 returns c =
@@ -28,4 +19,4 @@ returns c =
     (put-then _ _ (padded 2 (x / 100)) (padded 2 (x % 100)) (omega arith) (first .put-two .ensures) (second .put-two2 .ensures))
 
 pub put-four-spec : {M : Type 1} → statement M
-put-four-spec = tie.close (tie.spec put-two-requires put-two-requires-2 same-length returns)
+put-four-spec = tie.close (tie.spec (λ c κs. search needs) (λ c κs. search needs) (λ c. search needs) returns)

@@ -15,23 +15,8 @@ use Rattle.decimals.proofs.put_leading.Tie as tie
 stored : (l : List ℕ) (at b d : ℕ) → at < length l → b ≡ d → set l at b ≡ splice l at (d ∷ [])
 stored l at b d h e = splice-one l at b h ∙ ap (λ (k : ℕ). splice l at (k ∷ [])) e
 
-digit-requires : tie.Need-digit-requires
-digit-requires c κs = search needs
-
-slice-write-out : tie.Need-slice-write-out
-slice-write-out c = search needs
-
-add-result : tie.Need-add-result
-add-result c = search needs
-
-same-length : tie.Need-same-length
-same-length c = search needs
-
 returns : tie.Need-returns
 returns c = (omega arith, stored _ _ _ _ (c .before .before .before .pre) (c .before .digit .ensures))
-
-same-length-2 : tie.Need-same-length-2
-same-length-2 c = search needs
 
 returns-2 : tie.Need-returns-2
 returns-2 c = (omega arith, stored _ _ _ _ (c .before .before .before .pre) (c .before .digit .ensures))
@@ -40,10 +25,10 @@ pub put-leading-spec : {M : Type 1} → statement M
 put-leading-spec =
     tie.close
     (tie.spec
-    digit-requires
-    slice-write-out
-    add-result
-    same-length
+    (λ c κs. search needs)
+    (λ c. search needs)
+    (λ c. search needs)
+    (λ c. search needs)
     returns
-    same-length-2
+    (λ c. search needs)
     returns-2)

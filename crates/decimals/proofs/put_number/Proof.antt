@@ -15,15 +15,6 @@ one : (x : ℕ) → (32 ∷ []) ++ decimal x ≡ spaced (x ∷ [])
 unfolding spaced
 one x = ap (λ (t : List ℕ). 32 ∷ t) (sym (append-nil (decimal x)))
 
-put-byte-requires : tie.Need-put-byte-requires
-put-byte-requires c κs = search needs
-
-put-decimal-requires : tie.Need-put-decimal-requires
-put-decimal-requires c κs = search needs
-
-same-length : tie.Need-same-length
-same-length c = search needs
-
 returns : tie.Need-returns
 returns c =
     let digits = c .before .before in
@@ -36,4 +27,4 @@ returns c =
     )
 
 pub put-number-spec : {M : Type 1} → statement M
-put-number-spec = tie.close (tie.spec put-byte-requires put-decimal-requires same-length returns)
+put-number-spec = tie.close (tie.spec (λ c κs. search needs) (λ c κs. search needs) (λ c. search needs) returns)

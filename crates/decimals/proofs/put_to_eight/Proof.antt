@@ -10,25 +10,10 @@ use Rattle.decimals.specs.DecimalLaws.{count-below, decimal-split, padde
 use Rattle.decimals.proofs.put_to_eight.Statement.{statement}
 use Rattle.decimals.proofs.put_to_eight.Tie as tie
 
-put-to-four-requires : tie.Need-put-to-four-requires
-put-to-four-requires c κs = search needs
-
-same-length : tie.Need-same-length
-same-length c = search needs
-
-returns : tie.Need-returns
-returns c = search needs
-
-put-to-four-requires-2 : tie.Need-put-to-four-requires-2
-put-to-four-requires-2 c κs = search needs
-
 put-four-requires : tie.Need-put-four-requires
 put-four-requires c κs =
     let x = c .before .before .before .before .before .before .before .args .x in
     (omega (arith, count-below 3 (x / 10000) (omega arith)), omega arith)
-
-same-length-2 : tie.Need-same-length-2
-same-length-2 c = search needs
 
 returns-2 : tie.Need-returns-2
 unfolding padded
@@ -43,10 +28,10 @@ pub put-to-eight-spec : {M : Type 1} → statement M
 put-to-eight-spec =
     tie.close
     (tie.spec
-    put-to-four-requires
-    same-length
-    returns
-    put-to-four-requires-2
+    (λ c κs. search needs)
+    (λ c. search needs)
+    (λ c. search needs)
+    (λ c κs. search needs)
     put-four-requires
-    same-length-2
+    (λ c. search needs)
     returns-2)

@@ -11,24 +11,6 @@ use Rattle.decimals.specs.Leading.{ready-first, ready-next, ready-last}
 use Rattle.decimals.proofs.put_to_four.Statement.{statement}
 use Rattle.decimals.proofs.put_to_four.Tie as tie
 
-put-leading-requires : tie.Need-put-leading-requires
-put-leading-requires c κs = search needs
-
-put-leading-requires-2 : tie.Need-put-leading-requires-2
-put-leading-requires-2 c κs = search needs
-
-put-leading-requires-3 : tie.Need-put-leading-requires-3
-put-leading-requires-3 c κs = search needs
-
-digit-requires : tie.Need-digit-requires
-digit-requires c κs = search needs
-
-put-byte-requires : tie.Need-put-byte-requires
-put-byte-requires c κs = search needs
-
-same-length : tie.Need-same-length
-same-length c = search needs
-
 returns : tie.Need-returns
 returns c =
     let fourth = c .before .before in
@@ -49,10 +31,10 @@ pub put-to-four-spec : {M : Type 1} → statement M
 put-to-four-spec =
     tie.close
     (tie.spec
-    put-leading-requires
-    put-leading-requires-2
-    put-leading-requires-3
-    digit-requires
-    put-byte-requires
-    same-length
+    (λ c κs. search needs)
+    (λ c κs. search needs)
+    (λ c κs. search needs)
+    (λ c κs. search needs)
+    (λ c κs. search needs)
+    (λ c. search needs)
     returns)

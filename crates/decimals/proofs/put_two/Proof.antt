@@ -15,21 +15,6 @@ two : (x a b : ℕ) → x < 100 → a ≡ x / 10 + 48 → b ≡ x % 10 + 48 → 
 unfolding padded
 two x a b h first second = ap₂ (λ (d e : ℕ). d ∷ e ∷ []) (omega arith) second
 
-digit-requires : tie.Need-digit-requires
-digit-requires c κs = search needs
-
-put-byte-requires : tie.Need-put-byte-requires
-put-byte-requires c κs = search needs
-
-digit-requires-2 : tie.Need-digit-requires-2
-digit-requires-2 c κs = search needs
-
-put-byte-requires-2 : tie.Need-put-byte-requires-2
-put-byte-requires-2 c κs = search needs
-
-same-length : tie.Need-same-length
-same-length c = search needs
-
 returns : tie.Need-returns
 unfolding padded
 returns c =
@@ -45,9 +30,9 @@ pub put-two-spec : {M : Type 1} → statement M
 put-two-spec =
     tie.close
     (tie.spec
-    digit-requires
-    put-byte-requires
-    digit-requires-2
-    put-byte-requires-2
-    same-length
+    (λ c κs. search needs)
+    (λ c κs. search needs)
+    (λ c κs. search needs)
+    (λ c κs. search needs)
+    (λ c. search needs)
     returns)

@@ -9,15 +9,6 @@ use Rattle.input.proofs.gather.Tie as tie
 slice-aggregate-part : tie.Need-slice-aggregate-part
 slice-aggregate-part c = sym (length-take-le _ _ (c .before .before .before .pre .1))
 
-line-feed-requires : tie.Need-line-feed-requires
-line-feed-requires c κs = search needs
-
-keep-requires : tie.Need-keep-requires
-keep-requires c κs = search needs
-
-same-length : tie.Need-same-length
-same-length c = search needs
-
 returns : tie.Need-returns
 returns c =
     let pre = c .before .before .before .before .before .before .before .before .pre in
@@ -28,4 +19,4 @@ returns c =
 
 pub gather-spec : {M : Type 1} → statement M
 gather-spec =
-    tie.close (tie.spec slice-aggregate-part line-feed-requires keep-requires same-length returns)
+    tie.close (tie.spec slice-aggregate-part (λ c κs. search needs) (λ c κs. search needs) (λ c. search needs) returns)

@@ -15,41 +15,8 @@ Inv-loop book₀ word₀ count len₀ i₀ book word len i =
 abbrev μ-loop : tie.MeasureT-loop
 μ-loop book₀ word₀ count len₀ i₀ book word len i = count - i
 
-arg-count-requires : tie.Need-arg-count-requires Inv-loop μ-loop
-arg-count-requires c κs = search needs
-
-loop-holds : tie.Need-loop-holds Inv-loop μ-loop
-loop-holds c = search needs
-
-argument-requires : tie.Need-argument-requires Inv-loop μ-loop
-argument-requires c κs = search needs
-
-slice-reshare-prefix-add-word : tie.Need-slice-reshare-prefix-add-word Inv-loop μ-loop
-slice-reshare-prefix-add-word c = search needs
-
 slice-aggregate-add-word : tie.Need-slice-aggregate-add-word Inv-loop μ-loop
 slice-aggregate-add-word c = sym (length-take-le _ _ (omega arith))
-
-add-word-requires : tie.Need-add-word-requires Inv-loop μ-loop
-add-word-requires c κs = search needs
-
-add-i : tie.Need-add-i Inv-loop μ-loop
-add-i c = search needs
-
-loop-less : tie.Need-loop-less Inv-loop μ-loop
-loop-less c = search needs
-
-loop-again : tie.Need-loop-again Inv-loop μ-loop
-loop-again c = search needs
-
-same-length : tie.Need-same-length Inv-loop μ-loop
-same-length c = search needs
-
-same-length-2 : tie.Need-same-length-2 Inv-loop μ-loop
-same-length-2 c = search needs
-
-returns : tie.Need-returns Inv-loop μ-loop
-returns c = search needs
 
 pub put-note-spec : {M : Type 1} → statement M
 put-note-spec =
@@ -57,15 +24,15 @@ put-note-spec =
     (tie.spec
     Inv-loop
     μ-loop
-    arg-count-requires
-    loop-holds
-    argument-requires
-    slice-reshare-prefix-add-word
+    (λ c κs. search needs)
+    (λ c. search needs)
+    (λ c κs. search needs)
+    (λ c. search needs)
     slice-aggregate-add-word
-    add-word-requires
-    add-i
-    loop-less
-    loop-again
-    same-length
-    same-length-2
-    returns)
+    (λ c κs. search needs)
+    (λ c. search needs)
+    (λ c. search needs)
+    (λ c. search needs)
+    (λ c. search needs)
+    (λ c. search needs)
+    (λ c. search needs))

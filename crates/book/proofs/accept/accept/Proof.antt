@@ -78,12 +78,6 @@ Inv-loop buffer used d count at₀ left₀ at left = Walked buffer d count at le
 abbrev μ-loop : tie.MeasureT-loop
 μ-loop buffer used d count at₀ left₀ at left = left
 
-describe-book-requires : tie.Need-describe-book-requires Inv-loop μ-loop
-describe-book-requires c κs = tt
-
-unaccepted-requires : tie.Need-unaccepted-requires Inv-loop μ-loop
-unaccepted-requires c κs = tt
-
 returns : tie.Need-returns Inv-loop μ-loop
 returns c = by-trailer _ _ (c .before .before .before .describe-book .ensures) (c .before .if1 .taken) (c .unaccepted .ensures)
 
@@ -117,9 +111,6 @@ sub-unaccepted c = omega (arith, c .before .before .before .loop .inv .most)
 add-unaccepted : tie.Need-add-unaccepted Inv-loop μ-loop
 add-unaccepted c = omega (arith, c .before .before .loop-test .taken, c .before .before .before .loop .inv .most)
 
-unaccepted-requires-2 : tie.Need-unaccepted-requires-2 Inv-loop μ-loop
-unaccepted-requires-2 c κs = tt
-
 returns-2 : tie.Need-returns-2 Inv-loop μ-loop
 returns-2 c =
     let tested = c .before .before in
@@ -131,12 +122,6 @@ returns-2 c =
 
 add-at : tie.Need-add-at Inv-loop μ-loop
 add-at c = omega (arith, at-record (c .before .before), fits (c .before .before))
-
-sub-left : tie.Need-sub-left Inv-loop μ-loop
-sub-left c = omega arith
-
-loop-less : tie.Need-loop-less Inv-loop μ-loop
-loop-less c = omega arith
 
 loop-again : tie.Need-loop-again Inv-loop μ-loop
 loop-again c =
@@ -163,17 +148,17 @@ accept-spec =
     (tie.spec
     Inv-loop
     μ-loop
-    describe-book-requires
-    unaccepted-requires
+    (λ c κs. tt)
+    (λ c κs. tt)
     returns
     loop-holds
     record-agrees-requires
     sub-unaccepted
     add-unaccepted
-    unaccepted-requires-2
+    (λ c κs. tt)
     returns-2
     add-at
-    sub-left
-    loop-less
+    (λ c. omega arith)
+    (λ c. omega arith)
     loop-again
     returns-3)

@@ -81,30 +81,12 @@ module _ (b : List ℕ) (used : ℕ) (x : List ℕ) {d : Code.Description} (is :
   unfolding appendAfter
   appended none few fits put = on none ∙ rw put (simp (lt-leb _ _ few, le-ltb _ _ fits))
 
-describe-book-requires : tie.Need-describe-book-requires
-describe-book-requires c κs = search needs
-
-unwritten-requires : tie.Need-unwritten-requires
-unwritten-requires c κs = search needs
-
-same-length : tie.Need-same-length
-same-length c = search needs
-
 returns : tie.Need-returns
 returns c = c .unwritten .ensures _ ∙ sym (by-trailer _ _ _ (c .before .before .before .describe-book .ensures) (c .before .if1 .taken))
 
 sub-own-refusal : tie.Need-sub-own-refusal
 sub-own-refusal c =
     omega (arith, of-book _ _ (c .before .before .describe-book .ensures) (c .if1 .left) .used-most)
-
-own-refusal-requires : tie.Need-own-refusal-requires
-own-refusal-requires c κs = search needs
-
-unwritten-requires-2 : tie.Need-unwritten-requires-2
-unwritten-requires-2 c κs = search needs
-
-same-length-2 : tie.Need-same-length-2
-same-length-2 c = search needs
 
 returns-2 : tie.Need-returns-2
 returns-2 c =
@@ -143,9 +125,6 @@ put-record-requires c κs =
 add-t9 : tie.Need-add-t9
 add-t9 c = omega (arith, room (c .before .before .before) .1)
 
-same-length-3 : tie.Need-same-length-3
-same-length-3 c = search needs
-
 returns-3 : tie.Need-returns-3
 returns-3 c =
     let put = c .before .before in
@@ -159,19 +138,19 @@ pub append-spec : {M : Type 1} → statement M
 append-spec =
     tie.close
     (tie.spec
-    describe-book-requires
-    unwritten-requires
-    same-length
+    (λ c κs. search needs)
+    (λ c κs. search needs)
+    (λ c. search needs)
     returns
     sub-own-refusal
-    own-refusal-requires
-    unwritten-requires-2
-    same-length-2
+    (λ c κs. search needs)
+    (λ c κs. search needs)
+    (λ c. search needs)
     returns-2
     sub-put-record
     cast-put-record
     add-put-record
     put-record-requires
     add-t9
-    same-length-3
+    (λ c. search needs)
     returns-3)

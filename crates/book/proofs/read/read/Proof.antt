@@ -45,17 +45,8 @@ module _ (b : List ℕ) (used index : ℕ) {d : Code.Description} (is : descript
   unfolding readAfter
   found none within read = on none ∙ rw read (simp (lt-leb _ _ within))
 
-describe-book-requires : tie.Need-describe-book-requires
-describe-book-requires c κs = search needs
-
-unread-requires : tie.Need-unread-requires
-unread-requires c κs = search needs
-
 returns : tie.Need-returns
 returns c = c .unread .ensures ∙ sym (by-trailer _ _ _ (c .before .before .before .describe-book .ensures) (c .before .if1 .taken))
-
-unread-requires-2 : tie.Need-unread-requires-2
-unread-requires-2 c κs = search needs
 
 returns-2 : tie.Need-returns-2
 returns-2 c =
@@ -97,9 +88,6 @@ add-word-at-2 c = omega (arith, at-index (c .before .before .before), fits (c .b
 word-at-requires-2 : tie.Need-word-at-requires-2
 word-at-requires-2 c κs = omega (arith, at-index (c .before .before .before))
 
-fields-of-requires : tie.Need-fields-of-requires
-fields-of-requires c κs = search needs
-
 returns-3 : tie.Need-returns-3
 returns-3 c =
     let second = c .before in
@@ -114,10 +102,10 @@ pub read-spec : {M : Type 1} → statement M
 read-spec =
     tie.close
     (tie.spec
-    describe-book-requires
-    unread-requires
+    (λ c κs. search needs)
+    (λ c κs. search needs)
     returns
-    unread-requires-2
+    (λ c κs. search needs)
     returns-2
     mul-at
     add-at
@@ -126,5 +114,5 @@ read-spec =
     word-at-requires
     add-word-at-2
     word-at-requires-2
-    fields-of-requires
+    (λ c κs. search needs)
     returns-3)

@@ -23,29 +23,11 @@ started :
 unfolding startOf
 started b note {m} h put = rw (put) (simp (le-ltb _ _ h))
 
-unwritten-requires : tie.Need-unwritten-requires
-unwritten-requires c κs = search needs
-
 returns : tie.Need-returns
 returns c = c .unwritten .ensures _ ∙ sym (refused _ _ (omega (arith, c .before .if1 .taken)))
 
-sub-if2 : tie.Need-sub-if2
-sub-if2 c = search needs
-
-unwritten-requires-2 : tie.Need-unwritten-requires-2
-unwritten-requires-2 c κs = search needs
-
 returns-2 : tie.Need-returns-2
 returns-2 c = c .unwritten2 .ensures _ ∙ sym (refused _ _ (omega (arith, c .before .if2 .taken)))
-
-put-trailer-requires : tie.Need-put-trailer-requires
-put-trailer-requires c κs = search needs
-
-add-t3 : tie.Need-add-t3
-add-t3 c = search needs
-
-same-length : tie.Need-same-length
-same-length c = search needs
 
 returns-3 : tie.Need-returns-3
 returns-3 c =
@@ -57,12 +39,12 @@ pub start-spec : {M : Type 1} → statement M
 start-spec =
     tie.close
     (tie.spec
-    unwritten-requires
+    (λ c κs. search needs)
     returns
-    sub-if2
-    unwritten-requires-2
+    (λ c. search needs)
+    (λ c κs. search needs)
     returns-2
-    put-trailer-requires
-    add-t3
-    same-length
+    (λ c κs. search needs)
+    (λ c. search needs)
+    (λ c. search needs)
     returns-3)

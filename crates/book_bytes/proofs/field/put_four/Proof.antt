@@ -19,29 +19,14 @@ stores l at p q r s h =
     let three : at + 3 ≡ suc (suc (suc at)) = omega arith in
     rw (one, two, three) (splice-sets l at (p ∷ q ∷ r ∷ s ∷ []) h)
 
-slice-write-buffer : tie.Need-slice-write-buffer
-slice-write-buffer c = search needs
-
-add-buffer : tie.Need-add-buffer
-add-buffer c = search needs
-
 slice-write-buffer-2 : tie.Need-slice-write-buffer-2
 slice-write-buffer-2 c = simp length-set (omega arith)
-
-add-buffer-2 : tie.Need-add-buffer-2
-add-buffer-2 c = search needs
 
 slice-write-buffer-3 : tie.Need-slice-write-buffer-3
 slice-write-buffer-3 c = simp length-set (omega arith)
 
-add-buffer-3 : tie.Need-add-buffer-3
-add-buffer-3 c = search needs
-
 slice-write-buffer-4 : tie.Need-slice-write-buffer-4
 slice-write-buffer-4 c = simp length-set (omega arith)
-
-same-length : tie.Need-same-length
-same-length c = search needs
 
 returns : tie.Need-returns
 returns c = stores _ _ _ _ _ _ (c .pre)
@@ -50,12 +35,12 @@ pub put-four-spec : {M : Type 1} → statement M
 put-four-spec =
     tie.close
     (tie.spec
-    slice-write-buffer
-    add-buffer
+    (λ c. search needs)
+    (λ c. search needs)
     slice-write-buffer-2
-    add-buffer-2
+    (λ c. search needs)
     slice-write-buffer-3
-    add-buffer-3
+    (λ c. search needs)
     slice-write-buffer-4
-    same-length
+    (λ c. search needs)
     returns)

@@ -28,39 +28,6 @@ compared b at =
     rw (two, three)
     (all-four (eqb (getD b at 0) 82) (eqb (getD b (at + 1) 0) 66) (eqb (getD b (at + 2) 0) 75) (eqb (getD b (at + 3) 0) 49))
 
-shared-slice-read-result : tie.Need-shared-slice-read-result
-shared-slice-read-result c = search needs
-
-array-read-result : tie.Need-array-read-result
-array-read-result c = search needs
-
-add-result : tie.Need-add-result
-add-result c = search needs
-
-shared-slice-read-result-2 : tie.Need-shared-slice-read-result-2
-shared-slice-read-result-2 c = search needs
-
-array-read-result-2 : tie.Need-array-read-result-2
-array-read-result-2 c = search needs
-
-add-result-2 : tie.Need-add-result-2
-add-result-2 c = search needs
-
-shared-slice-read-result-3 : tie.Need-shared-slice-read-result-3
-shared-slice-read-result-3 c = search needs
-
-array-read-result-3 : tie.Need-array-read-result-3
-array-read-result-3 c = search needs
-
-add-result-3 : tie.Need-add-result-3
-add-result-3 c = search needs
-
-shared-slice-read-result-4 : tie.Need-shared-slice-read-result-4
-shared-slice-read-result-4 c = search needs
-
-array-read-result-4 : tie.Need-array-read-result-4
-array-read-result-4 c = search needs
-
 returns : tie.Need-returns
 returns c = compared _ _
 
@@ -68,15 +35,15 @@ pub has-mark-spec : {M : Type 1} → statement M
 has-mark-spec =
     tie.close
     (tie.spec
-    shared-slice-read-result
-    array-read-result
-    add-result
-    shared-slice-read-result-2
-    array-read-result-2
-    add-result-2
-    shared-slice-read-result-3
-    array-read-result-3
-    add-result-3
-    shared-slice-read-result-4
-    array-read-result-4
+    (λ c. search needs)
+    (λ c. search needs)
+    (λ c. search needs)
+    (λ c. search needs)
+    (λ c. search needs)
+    (λ c. search needs)
+    (λ c. search needs)
+    (λ c. search needs)
+    (λ c. search needs)
+    (λ c. search needs)
+    (λ c. search needs)
     returns)

@@ -36,24 +36,6 @@ abbrev μ-loop : tie.MeasureT-loop
 loop-holds : tie.Need-loop-holds Inv-loop μ-loop
 loop-holds c = (omega arith, refl, refl)
 
-mul-fields : tie.Need-mul-fields Inv-loop μ-loop
-mul-fields c = omega arith
-
-array-read-fields : tie.Need-array-read-fields Inv-loop μ-loop
-array-read-fields c = omega arith
-
-mul-fields-2 : tie.Need-mul-fields-2 Inv-loop μ-loop
-mul-fields-2 c = omega arith
-
-array-write-fields : tie.Need-array-write-fields Inv-loop μ-loop
-array-write-fields c = omega arith
-
-add-i : tie.Need-add-i Inv-loop μ-loop
-add-i c = omega arith
-
-loop-less : tie.Need-loop-less Inv-loop μ-loop
-loop-less c = omega arith
-
 loop-again : tie.Need-loop-again Inv-loop μ-loop
 loop-again c =
     let at-loop = c .before .loop in (
@@ -61,12 +43,6 @@ loop-again c =
       length-set (at-loop .fields) (at-loop .i) _ ∙ at-loop .inv .1,
       copy-one (at-loop .fields) (c .before .before .args .t1) (at-loop .i) (omega arith) (omega arith) (at-loop .inv .2),
     )
-
-array-write-fields-2 : tie.Need-array-write-fields-2 Inv-loop μ-loop
-array-write-fields-2 c = omega arith
-
-array-write-fields-3 : tie.Need-array-write-fields-3 Inv-loop μ-loop
-array-write-fields-3 c = omega arith
 
 returns : tie.Need-returns Inv-loop μ-loop
 returns c =
@@ -82,13 +58,13 @@ fields-of-spec =
     Inv-loop
     μ-loop
     loop-holds
-    mul-fields
-    array-read-fields
-    mul-fields-2
-    array-write-fields
-    add-i
-    loop-less
+    (λ c. omega arith)
+    (λ c. omega arith)
+    (λ c. omega arith)
+    (λ c. omega arith)
+    (λ c. omega arith)
+    (λ c. omega arith)
     loop-again
-    array-write-fields-2
-    array-write-fields-3
+    (λ c. omega arith)
+    (λ c. omega arith)
     returns)

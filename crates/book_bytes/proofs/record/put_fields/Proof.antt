@@ -43,27 +43,6 @@ loop-holds : tie.Need-loop-holds Inv-loop μ-loop
 unfolding wordsBytes
 loop-holds c = (omega arith, refl, sym (splice-nothing _ _))
 
-mul-put-word : tie.Need-mul-put-word Inv-loop μ-loop
-mul-put-word c = omega arith
-
-add-put-word : tie.Need-add-put-word Inv-loop μ-loop
-add-put-word c = omega arith
-
-mul-put-word-2 : tie.Need-mul-put-word-2 Inv-loop μ-loop
-mul-put-word-2 c = omega arith
-
-array-read-put-word : tie.Need-array-read-put-word Inv-loop μ-loop
-array-read-put-word c = omega arith
-
-put-word-requires : tie.Need-put-word-requires Inv-loop μ-loop
-put-word-requires c κs = omega arith
-
-add-i : tie.Need-add-i Inv-loop μ-loop
-add-i c = omega arith
-
-loop-less : tie.Need-loop-less Inv-loop μ-loop
-loop-less c = omega arith
-
 loop-again : tie.Need-loop-again Inv-loop μ-loop
 loop-again c =
     let turn = c .before .before in
@@ -73,9 +52,6 @@ loop-again c =
       omega arith,
       one-more _ _ (start .args .t3) (at-loop .i) (omega (arith, start .pre)) (omega arith) (at-loop .inv .2) (turn .put-word .ensures),
     )
-
-same-length : tie.Need-same-length Inv-loop μ-loop
-same-length c = omega arith
 
 returns : tie.Need-returns Inv-loop μ-loop
 returns c = let at-loop = c .before .loop in finished _ _ _ (at-loop .i) (omega arith) (at-loop .inv .2)
@@ -87,13 +63,13 @@ put-fields-spec =
     Inv-loop
     μ-loop
     loop-holds
-    mul-put-word
-    add-put-word
-    mul-put-word-2
-    array-read-put-word
-    put-word-requires
-    add-i
-    loop-less
+    (λ c. omega arith)
+    (λ c. omega arith)
+    (λ c. omega arith)
+    (λ c. omega arith)
+    (λ c κs. omega arith)
+    (λ c. omega arith)
+    (λ c. omega arith)
     loop-again
-    same-length
+    (λ c. omega arith)
     returns)

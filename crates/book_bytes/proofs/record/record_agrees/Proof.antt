@@ -21,24 +21,6 @@ compared b at {x} {r} case-is answer-is answer-read rating-read =
     let is = answer-is ∙ ap rateOf case-is in
     ap₂ _&&_ (ap₂ eqb answer-read (ap (λ (a : Answer). a .number) is)) (ap₂ eqb rating-read (ap (λ (a : Answer). a .rating) is))
 
-case-at-requires : tie.Need-case-at-requires
-case-at-requires c κs = search needs
-
-rate-requires : tie.Need-rate-requires
-rate-requires c κs = search needs
-
-add-word-at : tie.Need-add-word-at
-add-word-at c = search needs
-
-word-at-requires : tie.Need-word-at-requires
-word-at-requires c κs = search needs
-
-add-word-at-2 : tie.Need-add-word-at-2
-add-word-at-2 c = search needs
-
-word-at-requires-2 : tie.Need-word-at-requires-2
-word-at-requires-2 c κs = search needs
-
 returns : tie.Need-returns
 returns c =
     let second = c .before in
@@ -50,10 +32,10 @@ pub record-agrees-spec : {M : Type 1} → statement M
 record-agrees-spec =
     tie.close
     (tie.spec
-    case-at-requires
-    rate-requires
-    add-word-at
-    word-at-requires
-    add-word-at-2
-    word-at-requires-2
+    (λ c κs. search needs)
+    (λ c κs. search needs)
+    (λ c. search needs)
+    (λ c κs. search needs)
+    (λ c. search needs)
+    (λ c κs. search needs)
     returns)

@@ -26,40 +26,10 @@ module _ (b : List ℕ) (at : ℕ) {count distance size : ℕ} (marked : stands 
   unfolding describeAt
   sound test = rw (← count-is, ← distance-is, ← size-is) (simp (marked, test))
 
-has-mark-requires : tie.Need-has-mark-requires
-has-mark-requires c κs = search needs
-
-undescribed-requires : tie.Need-undescribed-requires
-undescribed-requires c κs = search needs
-
 returns : tie.Need-returns
 returns c =
     c .undescribed .ensures
     ∙ sym (unmarked _ _ (sym (c .before .before .has-mark .ensures) ∙ not-true _ (c .before .if1 .taken)))
-
-add-word-at : tie.Need-add-word-at
-add-word-at c = search needs
-
-word-at-requires : tie.Need-word-at-requires
-word-at-requires c κs = search needs
-
-add-word-at-2 : tie.Need-add-word-at-2
-add-word-at-2 c = search needs
-
-word-at-requires-2 : tie.Need-word-at-requires-2
-word-at-requires-2 c κs = search needs
-
-add-word-at-3 : tie.Need-add-word-at-3
-add-word-at-3 c = search needs
-
-word-at-requires-3 : tie.Need-word-at-requires-3
-word-at-requires-3 c κs = search needs
-
-wrong-trailer-requires : tie.Need-wrong-trailer-requires
-wrong-trailer-requires c κs = search needs
-
-undescribed-requires-2 : tie.Need-undescribed-requires-2
-undescribed-requires-2 c κs = search needs
 
 returns-2 : tie.Need-returns-2
 returns-2 c =
@@ -73,12 +43,6 @@ returns-2 c =
     (second .word-at2 .ensures)
     (third .word-at3 .ensures)
     (sym (tested .wrong-trailer .ensures) ∙ c .before .if2 .taken))
-
-cast-t7 : tie.Need-cast-t7
-cast-t7 c = search needs
-
-cast-t10 : tie.Need-cast-t10
-cast-t10 c = search needs
 
 sub-t11 : tie.Need-sub-t11
 sub-t11 c = right _ _ _ _ (sym (c .before .wrong-trailer .ensures) ∙ c .if2 .left) .before
@@ -99,19 +63,19 @@ pub describe-at-spec : {M : Type 1} → statement M
 describe-at-spec =
     tie.close
     (tie.spec
-    has-mark-requires
-    undescribed-requires
+    (λ c κs. search needs)
+    (λ c κs. search needs)
     returns
-    add-word-at
-    word-at-requires
-    add-word-at-2
-    word-at-requires-2
-    add-word-at-3
-    word-at-requires-3
-    wrong-trailer-requires
-    undescribed-requires-2
+    (λ c. search needs)
+    (λ c κs. search needs)
+    (λ c. search needs)
+    (λ c κs. search needs)
+    (λ c. search needs)
+    (λ c κs. search needs)
+    (λ c κs. search needs)
+    (λ c κs. search needs)
     returns-2
-    cast-t7
-    cast-t10
+    (λ c. search needs)
+    (λ c. search needs)
     sub-t11
     returns-3)

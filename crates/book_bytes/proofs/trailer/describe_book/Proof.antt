@@ -6,22 +6,13 @@ use borrow.Author.Needs.{needs}
 use Rattle.book_bytes.proofs.trailer.describe_book.Statement.{statement}
 use Rattle.book_bytes.proofs.trailer.describe_book.Tie as tie
 
-undescribed-requires : tie.Need-undescribed-requires
-undescribed-requires c κs = search needs
-
 returns : tie.Need-returns
 unfolding describe
 returns c = c .undescribed .ensures ∙ sym (simp (lt-ltb _ _ (c .before .if1 .taken)))
 
-undescribed-requires-2 : tie.Need-undescribed-requires-2
-undescribed-requires-2 c κs = search needs
-
 returns-2 : tie.Need-returns-2
 unfolding describe
 returns-2 c = c .undescribed2 .ensures ∙ sym (simp (le-ltb _ _ (c .before .before .if1 .left), lt-ltb _ _ (c .before .if2 .taken)))
-
-describe-at-requires : tie.Need-describe-at-requires
-describe-at-requires c κs = search needs
 
 returns-3 : tie.Need-returns-3
 unfolding describe
@@ -31,9 +22,9 @@ pub describe-book-spec : {M : Type 1} → statement M
 describe-book-spec =
     tie.close
     (tie.spec
-    undescribed-requires
+    (λ c κs. search needs)
     returns
-    undescribed-requires-2
+    (λ c κs. search needs)
     returns-2
-    describe-at-requires
+    (λ c κs. search needs)
     returns-3)

@@ -23,33 +23,6 @@ parts l at count {a} {b} {d} {e} h put-a put-b put-d put-e =
     let sized : Put d (at + 12) (wordBytes 112) e (at + 16) = (omega arith, put-e) in
     put-then l at _ _ h (put-then l at _ _ h (put-then l at _ _ h marked counted) distant) sized .1
 
-put-mark-requires : tie.Need-put-mark-requires
-put-mark-requires c κs = search needs
-
-add-put-word : tie.Need-add-put-word
-add-put-word c = search needs
-
-put-word-requires : tie.Need-put-word-requires
-put-word-requires c κs = search needs
-
-add-put-word-2 : tie.Need-add-put-word-2
-add-put-word-2 c = search needs
-
-mul-put-word : tie.Need-mul-put-word
-mul-put-word c = search needs
-
-put-word-requires-2 : tie.Need-put-word-requires-2
-put-word-requires-2 c κs = search needs
-
-add-put-word-3 : tie.Need-add-put-word-3
-add-put-word-3 c = search needs
-
-put-word-requires-3 : tie.Need-put-word-requires-3
-put-word-requires-3 c κs = search needs
-
-same-length : tie.Need-same-length
-same-length c = search needs
-
 returns : tie.Need-returns
 returns c =
     let word3 = c .before .before in
@@ -64,13 +37,13 @@ pub put-trailer-spec : {M : Type 1} → statement M
 put-trailer-spec =
     tie.close
     (tie.spec
-    put-mark-requires
-    add-put-word
-    put-word-requires
-    add-put-word-2
-    mul-put-word
-    put-word-requires-2
-    add-put-word-3
-    put-word-requires-3
-    same-length
+    (λ c κs. search needs)
+    (λ c. search needs)
+    (λ c κs. search needs)
+    (λ c. search needs)
+    (λ c. search needs)
+    (λ c κs. search needs)
+    (λ c. search needs)
+    (λ c κs. search needs)
+    (λ c. search needs)
     returns)

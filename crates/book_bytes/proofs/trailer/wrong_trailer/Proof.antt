@@ -9,12 +9,9 @@ returns : tie.Need-returns
 unfolding wrongTrailer
 returns c = simp (lt-ltb _ _ (c .if1 .taken))
 
-mul-result : tie.Need-mul-result
-mul-result c = search needs
-
 returns-2 : tie.Need-returns-2
 unfolding wrongTrailer
 returns-2 c = simp (le-ltb _ _ (c .if1 .left))
 
 pub wrong-trailer-spec : {M : Type 1} → statement M
-wrong-trailer-spec = tie.close (tie.spec returns mul-result returns-2)
+wrong-trailer-spec = tie.close (tie.spec returns (λ c. search needs) returns-2)

@@ -19,20 +19,8 @@ armed c = sym (c .before .armoured .ensures) ∙ c .if1 .taken
 fine : (c : tie.Then1) → SoundArmour (c .before .before .args .t1)
 fine c = sound (c .before .before .args .t1) (c .before .before .pre) .armour (armed c)
 
-armoured-requires : tie.Need-armoured-requires
-armoured-requires c κs = search needs
-
-array-read-resistance : tie.Need-array-read-resistance
-array-read-resistance c = search needs
-
-array-read-coefficient : tie.Need-array-read-coefficient
-array-read-coefficient c = search needs
-
 coefficient-requires : tie.Need-coefficient-requires
 coefficient-requires c κs = (fine c .metal .least, fine c .metal .most)
-
-array-read-resistance-2 : tie.Need-array-read-resistance-2
-array-read-resistance-2 c = search needs
 
 resistance-requires : tie.Need-resistance-requires
 resistance-requires c κs =
@@ -58,11 +46,11 @@ pub armour-resistance-spec : {M : Type 1} → statement M
 armour-resistance-spec =
     tie.close
     (tie.spec
-    armoured-requires
-    array-read-resistance
-    array-read-coefficient
+    (λ c κs. search needs)
+    (λ c. search needs)
+    (λ c. search needs)
     coefficient-requires
-    array-read-resistance-2
+    (λ c. search needs)
     resistance-requires
     returns
     returns-2)

@@ -13,22 +13,10 @@ use lib.ListN.{getD}
 use Rattle.rating.proofs.case.conductor_resistance.Statement.{statement}
 use Rattle.rating.proofs.case.conductor_resistance.Tie as tie
 
-array-read-resistance : tie.Need-array-read-resistance
-array-read-resistance c = search needs
-
-array-read-conductor-metal : tie.Need-array-read-conductor-metal
-array-read-conductor-metal c = search needs
-
-conductor-metal-requires : tie.Need-conductor-metal-requires
-conductor-metal-requires c κs = search needs
-
 coefficient-requires : tie.Need-coefficient-requires
 coefficient-requires c κs =
     let range = conductorMetal-range (getD (c .before .args .t1) 1 0) in
     omega (arith, c .conductor-metal .ensures)
-
-array-read-resistance-2 : tie.Need-array-read-resistance-2
-array-read-resistance-2 c = search needs
 
 resistance-requires : tie.Need-resistance-requires
 resistance-requires c κs =
@@ -50,10 +38,10 @@ pub conductor-resistance-spec : {M : Type 1} → statement M
 conductor-resistance-spec =
     tie.close
     (tie.spec
-    array-read-resistance
-    array-read-conductor-metal
-    conductor-metal-requires
+    (λ c. search needs)
+    (λ c. search needs)
+    (λ c κs. search needs)
     coefficient-requires
-    array-read-resistance-2
+    (λ c. search needs)
     resistance-requires
     returns)

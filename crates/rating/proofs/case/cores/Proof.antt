@@ -5,9 +5,6 @@ use Rattle.rating.specs.Values.{coresOf}
 use Rattle.rating.proofs.case.cores.Statement.{statement}
 use Rattle.rating.proofs.case.cores.Tie as tie
 
-armoured-requires : tie.Need-armoured-requires
-armoured-requires c κs = search needs
-
 returns : tie.Need-returns
 unfolding coresOf
 returns c = simp (sym (c .before .armoured .ensures) ∙ c .if1 .taken)
@@ -17,4 +14,4 @@ unfolding coresOf
 returns-2 c = simp (sym (c .before .armoured .ensures) ∙ c .if1 .left)
 
 pub cores-spec : {M : Type 1} → statement M
-cores-spec = tie.close (tie.spec armoured-requires returns returns-2)
+cores-spec = tie.close (tie.spec (λ c κs. search needs) returns returns-2)

@@ -27,12 +27,6 @@ difference c =
 unsigned : {z : ℤ} → RiseRange z → T (nonNeg z) × Fits w64 (natAbs z)
 unsigned range = (subst⁻¹ (λ z. T (nonNeg z)) (range .sign) tt, record { fits = omega arith })
 
-signed-requires : tie.Need-signed-requires
-signed-requires c κs = search needs
-
-signed-requires-2 : tie.Need-signed-requires-2
-signed-requires-2 c κs = search needs
-
 sub-result : tie.Need-sub-result
 sub-result c = fits-as (difference c)
 
@@ -45,4 +39,4 @@ returns c = ap natAbs (read-as (difference c))
 
 pub difference-spec : {M : Type 1} → statement M
 difference-spec =
-    tie.close (tie.spec signed-requires signed-requires-2 sub-result cast-result returns)
+    tie.close (tie.spec (λ c κs. search needs) (λ c κs. search needs) sub-result cast-result returns)

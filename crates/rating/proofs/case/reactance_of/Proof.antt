@@ -8,12 +8,6 @@ use Rattle.rating.specs.Values.{bOf}
 use Rattle.rating.proofs.case.reactance_of.Statement.{statement}
 use Rattle.rating.proofs.case.reactance_of.Tie as tie
 
-array-read-long : tie.Need-array-read-long
-array-read-long c = search needs
-
-long-requires : tie.Need-long-requires
-long-requires c κs = search needs
-
 reactance-requires : tie.Need-reactance-requires
 reactance-requires c κs =
     let fine : Sound (c .before .args .t1) = sound _ (c .before .pre) in
@@ -24,4 +18,4 @@ unfolding bOf
 returns c = c .reactance .ensures ∙ ap reactance (c .before .long .ensures .0)
 
 pub reactance-of-spec : {M : Type 1} → statement M
-reactance-of-spec = tie.close (tie.spec array-read-long long-requires reactance-requires returns)
+reactance-of-spec = tie.close (tie.spec (λ c. search needs) (λ c κs. search needs) reactance-requires returns)

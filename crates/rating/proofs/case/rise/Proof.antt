@@ -6,12 +6,6 @@ use Rattle.rating.specs.Values.{riseOf}
 use Rattle.rating.proofs.case.rise.Statement.{statement}
 use Rattle.rating.proofs.case.rise.Tie as tie
 
-array-read-difference : tie.Need-array-read-difference
-array-read-difference c = search needs
-
-array-read-difference-2 : tie.Need-array-read-difference-2
-array-read-difference-2 c = search needs
-
 difference-requires : tie.Need-difference-requires
 difference-requires c κs = rise-range (sound (c .args .t1) (c .pre))
 
@@ -21,4 +15,4 @@ returns c = c .difference .ensures
 
 pub rise-spec : {M : Type 1} → statement M
 rise-spec =
-    tie.close (tie.spec array-read-difference array-read-difference-2 difference-requires returns)
+    tie.close (tie.spec (λ c. search needs) (λ c. search needs) difference-requires returns)

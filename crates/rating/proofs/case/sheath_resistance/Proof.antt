@@ -11,19 +11,10 @@ use lib.ListN.{getD}
 use Rattle.rating.proofs.case.sheath_resistance.Statement.{statement}
 use Rattle.rating.proofs.case.sheath_resistance.Tie as tie
 
-array-read-resistance : tie.Need-array-read-resistance
-array-read-resistance c = search needs
-
-array-read-coefficient : tie.Need-array-read-coefficient
-array-read-coefficient c = search needs
-
 coefficient-requires : tie.Need-coefficient-requires
 coefficient-requires c κs =
     let fine : Sound (c .args .t1) = sound _ (c .pre) in
     (fine .sheathMetal .least, fine .sheathMetal .most)
-
-array-read-resistance-2 : tie.Need-array-read-resistance-2
-array-read-resistance-2 c = search needs
 
 resistance-requires : tie.Need-resistance-requires
 resistance-requires c κs =
@@ -45,9 +36,9 @@ pub sheath-resistance-spec : {M : Type 1} → statement M
 sheath-resistance-spec =
     tie.close
     (tie.spec
-    array-read-resistance
-    array-read-coefficient
+    (λ c. search needs)
+    (λ c. search needs)
     coefficient-requires
-    array-read-resistance-2
+    (λ c. search needs)
     resistance-requires
     returns)

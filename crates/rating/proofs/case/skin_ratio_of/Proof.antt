@@ -12,22 +12,10 @@ use lib.ListN.{getD}
 use Rattle.rating.proofs.case.skin_ratio_of.Statement.{statement}
 use Rattle.rating.proofs.case.skin_ratio_of.Tie as tie
 
-array-read-long : tie.Need-array-read-long
-array-read-long c = search needs
-
-long-requires : tie.Need-long-requires
-long-requires c κs = search needs
-
-array-read-ks : tie.Need-array-read-ks
-array-read-ks c = search needs
-
 ks-requires : tie.Need-ks-requires
 ks-requires c κs =
     let fine : Sound (c .before .args .t1) = sound _ (c .before .pre .0) in
     (fine .conductor .least, fine .conductor .most)
-
-long-requires-2 : tie.Need-long-requires-2
-long-requires-2 c κs = search needs
 
 skin-ratio-requires : tie.Need-skin-ratio-requires
 skin-ratio-requires c κs =
@@ -51,10 +39,10 @@ pub skin-ratio-of-spec : {M : Type 1} → statement M
 skin-ratio-of-spec =
     tie.close
     (tie.spec
-    array-read-long
-    long-requires
-    array-read-ks
+    (λ c. search needs)
+    (λ c κs. search needs)
+    (λ c. search needs)
     ks-requires
-    long-requires-2
+    (λ c κs. search needs)
     skin-ratio-requires
     returns)

@@ -54,21 +54,6 @@ yp-is c =
     let g = g-is (c .before) in
     c .proximity-factor .ensures ∙ (λ i. proximityFactor (u i) (g i))
 
-factor-requires : tie.Need-factor-requires
-factor-requires c κs = search needs
-
-array-read-long : tie.Need-array-read-long
-array-read-long c = search needs
-
-long-requires : tie.Need-long-requires
-long-requires c κs = search needs
-
-array-read-long-2 : tie.Need-array-read-long-2
-array-read-long-2 c = search needs
-
-long-requires-2 : tie.Need-long-requires-2
-long-requires-2 c κs = search needs
-
 spacing-ratio-requires : tie.Need-spacing-ratio-requires
 spacing-ratio-requires c κs =
     let start = c .before .before .before in
@@ -83,9 +68,6 @@ spacing-ratio-requires c κs =
       fine .sheathed,
       fine .apart,
     )
-
-factor-requires-2 : tie.Need-factor-requires-2
-factor-requires-2 c κs = search needs
 
 proximity-factor-requires : tie.Need-proximity-factor-requires
 proximity-factor-requires c κs =
@@ -115,13 +97,13 @@ pub conductor-spec : {M : Type 1} → statement M
 conductor-spec =
     tie.close
     (tie.spec
-    factor-requires
-    array-read-long
-    long-requires
-    array-read-long-2
-    long-requires-2
+    (λ c κs. search needs)
+    (λ c. search needs)
+    (λ c κs. search needs)
+    (λ c. search needs)
+    (λ c κs. search needs)
     spacing-ratio-requires
-    factor-requires-2
+    (λ c κs. search needs)
     proximity-factor-requires
     ac-resistance-requires
     returns)

@@ -20,36 +20,6 @@ log-is c =
     let ds = c .before .long5 .ensures .0 in
     c .log-low .ensures ∙ (λ i. logLow (di i) (ds i))
 
-array-read-long : tie.Need-array-read-long
-array-read-long c = search needs
-
-long-requires : tie.Need-long-requires
-long-requires c κs = search needs
-
-array-read-long-2 : tie.Need-array-read-long-2
-array-read-long-2 c = search needs
-
-long-requires-2 : tie.Need-long-requires-2
-long-requires-2 c κs = search needs
-
-array-read-long-3 : tie.Need-array-read-long-3
-array-read-long-3 c = search needs
-
-long-requires-3 : tie.Need-long-requires-3
-long-requires-3 c κs = search needs
-
-array-read-long-4 : tie.Need-array-read-long-4
-array-read-long-4 c = search needs
-
-long-requires-4 : tie.Need-long-requires-4
-long-requires-4 c κs = search needs
-
-array-read-long-5 : tie.Need-array-read-long-5
-array-read-long-5 c = search needs
-
-long-requires-5 : tie.Need-long-requires-5
-long-requires-5 c κs = search needs
-
 log-low-requires : tie.Need-log-low-requires
 log-low-requires c κs =
     let start = c .before .before .before .before .before in
@@ -83,16 +53,16 @@ pub dielectric-loss-of-spec : {M : Type 1} → statement M
 dielectric-loss-of-spec =
     tie.close
     (tie.spec
-    array-read-long
-    long-requires
-    array-read-long-2
-    long-requires-2
-    array-read-long-3
-    long-requires-3
-    array-read-long-4
-    long-requires-4
-    array-read-long-5
-    long-requires-5
+    (λ c. search needs)
+    (λ c κs. search needs)
+    (λ c. search needs)
+    (λ c κs. search needs)
+    (λ c. search needs)
+    (λ c κs. search needs)
+    (λ c. search needs)
+    (λ c κs. search needs)
+    (λ c. search needs)
+    (λ c κs. search needs)
     log-low-requires
     dielectric-loss-requires
     returns)

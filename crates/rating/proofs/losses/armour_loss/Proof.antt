@@ -24,18 +24,6 @@ unscreened-is c =
     let dA = c .before .long2 .ensures .0 in
     c .unscreened-loss .ensures ∙ (λ i. unscreenedLoss (ra i) (b i) (d i) (dA i))
 
-array-read-long : tie.Need-array-read-long
-array-read-long c = search needs
-
-long-requires : tie.Need-long-requires
-long-requires c κs = search needs
-
-array-read-long-2 : tie.Need-array-read-long-2
-array-read-long-2 c = search needs
-
-long-requires-2 : tie.Need-long-requires-2
-long-requires-2 c κs = search needs
-
 unscreened-loss-requires : tie.Need-unscreened-loss-requires
 unscreened-loss-requires c κs =
     let start = c .before .before in
@@ -47,9 +35,6 @@ unscreened-loss-requires c κs =
       omega (arith, c .long2 .ensures .0, armour .diameter),
       omega (arith, c .long2 .ensures .0, c .before .long .ensures .0, armour .distance),
     )
-
-sheath-reactance-low-of-requires : tie.Need-sheath-reactance-low-of-requires
-sheath-reactance-low-of-requires c κs = search needs
 
 screened-loss-requires : tie.Need-screened-loss-requires
 screened-loss-requires c κs =
@@ -80,11 +65,11 @@ pub armour-loss-spec : {M : Type 1} → statement M
 armour-loss-spec =
     tie.close
     (tie.spec
-    array-read-long
-    long-requires
-    array-read-long-2
-    long-requires-2
+    (λ c. search needs)
+    (λ c κs. search needs)
+    (λ c. search needs)
+    (λ c κs. search needs)
     unscreened-loss-requires
-    sheath-reactance-low-of-requires
+    (λ c κs. search needs)
     screened-loss-requires
     returns)

@@ -9,9 +9,6 @@ use Rattle.rating.specs.Values.{sOf, wOf}
 use Rattle.rating.proofs.losses.bonded.Statement.{statement}
 use Rattle.rating.proofs.losses.bonded.Tie as tie
 
-sheath-reactance-of-requires : tie.Need-sheath-reactance-of-requires
-sheath-reactance-of-requires c κs = search needs
-
 circulating-loss-requires : tie.Need-circulating-loss-requires
 circulating-loss-requires c κs =
     let fine : Sound (c .before .args .x) = sound _ (c .before .pre .0) in (
@@ -32,4 +29,4 @@ returns c =
     )
 
 pub bonded-spec : {M : Type 1} → statement M
-bonded-spec = tie.close (tie.spec sheath-reactance-of-requires circulating-loss-requires returns)
+bonded-spec = tie.close (tie.spec (λ c κs. search needs) circulating-loss-requires returns)

@@ -8,9 +8,6 @@ use Rattle.rating.specs.Screening.{armoured, eddying}
 use Rattle.rating.proofs.losses.losses_of.Statement.{statement}
 use Rattle.rating.proofs.losses.losses_of.Tie as tie
 
-array-read-arrangement : tie.Need-array-read-arrangement
-array-read-arrangement c = search needs
-
 single-point-requires : tie.Need-single-point-requires
 unfolding armoured eddying
 single-point-requires c κs =
@@ -47,28 +44,16 @@ bonded-requires c κs =
     let not-five = ne-eqb _ _ (c .match .rest .1) in
     (pre .0 .0, pre .0 .1, pre .0 .2, not-five, simp (not-three, not-four))
 
-returns : tie.Need-returns
-returns c = search needs
-
-returns-2 : tie.Need-returns-2
-returns-2 c = search needs
-
-returns-3 : tie.Need-returns-3
-returns-3 c = search needs
-
-returns-4 : tie.Need-returns-4
-returns-4 c = search needs
-
 pub losses-of-spec : {M : Type 1} → statement M
 losses-of-spec =
     tie.close
     (tie.spec
-    array-read-arrangement
+    (λ c. search needs)
     single-point-requires
     single-point-requires-2
     three-core-requires
     bonded-requires
-    returns
-    returns-2
-    returns-3
-    returns-4)
+    (λ c. search needs)
+    (λ c. search needs)
+    (λ c. search needs)
+    (λ c. search needs))

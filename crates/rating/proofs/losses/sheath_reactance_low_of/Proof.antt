@@ -25,31 +25,10 @@ log-is c =
     let d = c .before .long3 .ensures .0 in
     c .spacing-log-low .ensures ∙ (λ i. spacingLogLow (Field.arrangement x) (s i) (d i))
 
-array-read-long : tie.Need-array-read-long
-array-read-long c = search needs
-
-long-requires : tie.Need-long-requires
-long-requires c κs = search needs
-
 reactance-low-requires : tie.Need-reactance-low-requires
 reactance-low-requires c κs =
     let fine : Sound (c .before .args .t1) = sound _ (c .before .pre) in
     omega (arith, c .long .ensures .0, fine .frequency)
-
-array-read-spacing-log-low : tie.Need-array-read-spacing-log-low
-array-read-spacing-log-low c = search needs
-
-array-read-long-2 : tie.Need-array-read-long-2
-array-read-long-2 c = search needs
-
-long-requires-2 : tie.Need-long-requires-2
-long-requires-2 c κs = search needs
-
-array-read-long-3 : tie.Need-array-read-long-3
-array-read-long-3 c = search needs
-
-long-requires-3 : tie.Need-long-requires-3
-long-requires-3 c κs = search needs
 
 spacing-log-low-requires : tie.Need-spacing-log-low-requires
 spacing-log-low-requires c κs =
@@ -76,14 +55,14 @@ pub sheath-reactance-low-of-spec : {M : Type 1} → statement M
 sheath-reactance-low-of-spec =
     tie.close
     (tie.spec
-    array-read-long
-    long-requires
+    (λ c. search needs)
+    (λ c κs. search needs)
     reactance-low-requires
-    array-read-spacing-log-low
-    array-read-long-2
-    long-requires-2
-    array-read-long-3
-    long-requires-3
+    (λ c. search needs)
+    (λ c. search needs)
+    (λ c κs. search needs)
+    (λ c. search needs)
+    (λ c κs. search needs)
     spacing-log-low-requires
     sheath-reactance-low-requires
     returns)

@@ -20,21 +20,6 @@ log-is c =
     let d = c .before .long2 .ensures .0 in
     c .spacing-log-high .ensures ∙ (λ i. spacingLogHigh (Field.arrangement x) (s i) (d i))
 
-array-read-spacing-log-high : tie.Need-array-read-spacing-log-high
-array-read-spacing-log-high c = search needs
-
-array-read-long : tie.Need-array-read-long
-array-read-long c = search needs
-
-long-requires : tie.Need-long-requires
-long-requires c κs = search needs
-
-array-read-long-2 : tie.Need-array-read-long-2
-array-read-long-2 c = search needs
-
-long-requires-2 : tie.Need-long-requires-2
-long-requires-2 c κs = search needs
-
 spacing-log-high-requires : tie.Need-spacing-log-high-requires
 spacing-log-high-requires c κs =
     let start = c .before .before in
@@ -59,11 +44,11 @@ pub sheath-reactance-of-spec : {M : Type 1} → statement M
 sheath-reactance-of-spec =
     tie.close
     (tie.spec
-    array-read-spacing-log-high
-    array-read-long
-    long-requires
-    array-read-long-2
-    long-requires-2
+    (λ c. search needs)
+    (λ c. search needs)
+    (λ c κs. search needs)
+    (λ c. search needs)
+    (λ c κs. search needs)
     spacing-log-high-requires
     sheath-reactance-requires
     returns)

@@ -17,18 +17,6 @@ j-most : (three : Bool) → cond three 1 2 ≤ 2
 j-most true = lit≤ tt
 j-most false = lit≤ tt
 
-array-read-long : tie.Need-array-read-long
-array-read-long c = search needs
-
-long-requires : tie.Need-long-requires
-long-requires c κs = search needs
-
-array-read-long-2 : tie.Need-array-read-long-2
-array-read-long-2 c = search needs
-
-long-requires-2 : tie.Need-long-requires-2
-long-requires-2 c κs = search needs
-
 eddy-loss-requires : tie.Need-eddy-loss-requires
 eddy-loss-requires c κs =
     let start = c .before .before in
@@ -60,9 +48,9 @@ pub single-point-spec : {M : Type 1} → statement M
 single-point-spec =
     tie.close
     (tie.spec
-    array-read-long
-    long-requires
-    array-read-long-2
-    long-requires-2
+    (λ c. search needs)
+    (λ c κs. search needs)
+    (λ c. search needs)
+    (λ c κs. search needs)
     eddy-loss-requires
     returns)

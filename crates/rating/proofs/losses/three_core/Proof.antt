@@ -9,9 +9,6 @@ use Rattle.rating.specs.Values.{sOf}
 use Rattle.rating.proofs.losses.three_core.Statement.{statement}
 use Rattle.rating.proofs.losses.three_core.Tie as tie
 
-sheath-reactance-of-requires : tie.Need-sheath-reactance-of-requires
-sheath-reactance-of-requires c κs = search needs
-
 sl-loss-requires : tie.Need-sl-loss-requires
 sl-loss-requires c κs =
     let fine : Sound (c .before .args .x) = sound _ (c .before .pre .0 .0) in (
@@ -19,9 +16,6 @@ sl-loss-requires c κs =
       omega (arith, c .before .pre .0 .2, rs-range fine),
       omega (arith, c .before .pre .0 .2, rs-range fine),
     )
-
-armour-loss-requires : tie.Need-armour-loss-requires
-armour-loss-requires c κs = search needs
 
 returns : tie.Need-returns
 unfolding sOf
@@ -36,4 +30,4 @@ returns c =
 
 pub three-core-spec : {M : Type 1} → statement M
 three-core-spec =
-    tie.close (tie.spec sheath-reactance-of-requires sl-loss-requires armour-loss-requires returns)
+    tie.close (tie.spec (λ c κs. search needs) sl-loss-requires (λ c κs. search needs) returns)

@@ -18,9 +18,6 @@ rise-most c = omega (arith, c .pre .0 .1, rise-range (sound (c .args .x) (c .pre
 mul-rating : tie.Need-mul-rating
 mul-rating c = omega (arith, rise-most c)
 
-sub-rating : tie.Need-sub-rating
-sub-rating c = search needs
-
 rating-requires : tie.Need-rating-requires
 rating-requires c κs = omega (arith, rise-most c)
 
@@ -34,4 +31,4 @@ returns c =
     c .rating .ensures ∙ (λ i. rating (10000000 * permitted i - dd i) (e i))
 
 pub current-of-spec : {M : Type 1} → statement M
-current-of-spec = tie.close (tie.spec mul-rating sub-rating rating-requires returns)
+current-of-spec = tie.close (tie.spec mul-rating (λ c. search needs) rating-requires returns)

@@ -41,38 +41,14 @@ eddies-is c =
     let b = sym (c .before .before .reactance-of .ensures) in
     λ i. some i && ltb (rs i) (5 * b i)
 
-conductor-resistance-requires : tie.Need-conductor-resistance-requires
-conductor-resistance-requires c κs = search needs
-
-skin-ratio-of-requires : tie.Need-skin-ratio-of-requires
-skin-ratio-of-requires c κs = search needs
-
-proximity-ratio-of-requires : tie.Need-proximity-ratio-of-requires
-proximity-ratio-of-requires c κs = search needs
-
-refuse-requires : tie.Need-refuse-requires
-refuse-requires c κs = search needs
-
 returns : tie.Need-returns
 unfolding judged
 returns c = simp (skin-is (c .before .before) ∙ c .before .if1 .taken) (c .refuse .ensures)
-
-reactance-of-requires : tie.Need-reactance-of-requires
-reactance-of-requires c κs = search needs
-
-sheath-resistance-requires : tie.Need-sheath-resistance-requires
-sheath-resistance-requires c κs = search needs
-
-eddying-requires : tie.Need-eddying-requires
-eddying-requires c κs = search needs
 
 mul-if2 : tie.Need-mul-if2
 mul-if2 c =
     let start = c .before .before .before .before .before .before .before in
     omega (arith, c .before .before .reactance-of .ensures, b-range (sound (start .args .x) (start .pre)))
-
-refuse-requires-2 : tie.Need-refuse-requires-2
-refuse-requires-2 c κs = search needs
 
 returns-2 : tie.Need-returns-2
 unfolding judged
@@ -109,16 +85,16 @@ pub judge-spec : {M : Type 1} → statement M
 judge-spec =
     tie.close
     (tie.spec
-    conductor-resistance-requires
-    skin-ratio-of-requires
-    proximity-ratio-of-requires
-    refuse-requires
+    (λ c κs. search needs)
+    (λ c κs. search needs)
+    (λ c κs. search needs)
+    (λ c κs. search needs)
     returns
-    reactance-of-requires
-    sheath-resistance-requires
-    eddying-requires
+    (λ c κs. search needs)
+    (λ c κs. search needs)
+    (λ c κs. search needs)
     mul-if2
-    refuse-requires-2
+    (λ c κs. search needs)
     returns-2
     load-requires
     returns-3)

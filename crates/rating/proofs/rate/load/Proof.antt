@@ -47,15 +47,6 @@ hot c =
     let rise = sym (c .rise .ensures) in
     λ i. ltb (90000000 * rise i) (10 * dd i)
 
-dielectric-loss-of-requires : tie.Need-dielectric-loss-of-requires
-dielectric-loss-of-requires c κs = search needs
-
-dielectric-rise-of-requires : tie.Need-dielectric-rise-of-requires
-dielectric-rise-of-requires c κs = search needs
-
-rise-requires : tie.Need-rise-requires
-rise-requires c κs = search needs
-
 mul-if1 : tie.Need-mul-if1
 unfolding riseOf
 mul-if1 c = omega (arith, c .rise .ensures, rise-range (known (start c) .fine))
@@ -63,21 +54,9 @@ mul-if1 c = omega (arith, c .rise .ensures, rise-range (known (start c) .fine))
 mul-if1-2 : tie.Need-mul-if1-2
 mul-if1-2 c = omega (arith, c .before .dielectric-rise-of .ensures, dd-most (known (start c) .fine))
 
-refuse-requires : tie.Need-refuse-requires
-refuse-requires c κs = search needs
-
 returns : tie.Need-returns
 unfolding loaded
 returns c = simp (hot (c .before .before) ∙ lt-ltb _ _ (c .before .if1 .taken)) (c .refuse .ensures)
-
-armour-resistance-requires : tie.Need-armour-resistance-requires
-armour-resistance-requires c κs = search needs
-
-conductor-requires : tie.Need-conductor-requires
-conductor-requires c κs = search needs
-
-losses-of-requires : tie.Need-losses-of-requires
-losses-of-requires c κs = search needs
 
 unit-rise-of-requires : tie.Need-unit-rise-of-requires
 unit-rise-of-requires c κs =
@@ -102,9 +81,6 @@ current-of-requires c κs =
       (cool .if1 .left, omega (arith, c .unit-rise-of .ensures, e-least (k .fine) r≥)),
     )
 
-refuse-requires-2 : tie.Need-refuse-requires-2
-refuse-requires-2 c κs = search needs
-
 returns-2 : tie.Need-returns-2
 unfolding loaded currentRefused
 returns-2 c =
@@ -112,9 +88,6 @@ returns-2 c =
     let cool = current .before .before .before .before .before in
     let over = ap (ltb 5000000) (sym (current .current-of .ensures)) ∙ lt-ltb _ _ (c .before .if2 .taken) in
     simp (hot (cool .before) ∙ le-ltb _ _ (cool .if1 .left), over) (c .refuse2 .ensures)
-
-cast-t14 : tie.Need-cast-t14
-cast-t14 c = search needs
 
 returns-3 : tie.Need-returns-3
 unfolding loaded currentRefused rated sheetOf
@@ -143,19 +116,19 @@ pub load-spec : {M : Type 1} → statement M
 load-spec =
     tie.close
     (tie.spec
-    dielectric-loss-of-requires
-    dielectric-rise-of-requires
-    rise-requires
+    (λ c κs. search needs)
+    (λ c κs. search needs)
+    (λ c κs. search needs)
     mul-if1
     mul-if1-2
-    refuse-requires
+    (λ c κs. search needs)
     returns
-    armour-resistance-requires
-    conductor-requires
-    losses-of-requires
+    (λ c κs. search needs)
+    (λ c κs. search needs)
+    (λ c κs. search needs)
     unit-rise-of-requires
     current-of-requires
-    refuse-requires-2
+    (λ c κs. search needs)
     returns-2
-    cast-t14
+    (λ c. search needs)
     returns-3)

@@ -6,9 +6,6 @@ use Rattle.rating.specs.Rate.{refused, rateOf-is}
 use Rattle.rating.proofs.rate.rate.Statement.{statement}
 use Rattle.rating.proofs.rate.rate.Tie as tie
 
-screen-requires : tie.Need-screen-requires
-screen-requires c κs = search needs
-
 judge-requires : tie.Need-judge-requires
 judge-requires c κs = sym (c .before .screen .ensures) ∙ c .if1 .taken
 
@@ -17,13 +14,10 @@ returns c =
     let passed = sym (c .before .before .screen .ensures) ∙ c .before .if1 .taken in
     rw rateOf-is (simp (eq-eqb _ 0 passed) (c .judge .ensures))
 
-refuse-requires : tie.Need-refuse-requires
-refuse-requires c κs = search needs
-
 returns-2 : tie.Need-returns-2
 returns-2 c =
     let first = c .before .before .screen .ensures in
     rw rateOf-is (simp (ne-eqb _ 0 (λ passed. c .before .if1 .left (first ∙ passed))) (c .refuse .ensures ∙ ap refused first))
 
 pub rate-spec : {M : Type 1} → statement M
-rate-spec = tie.close (tie.spec screen-requires judge-requires returns refuse-requires returns-2)
+rate-spec = tie.close (tie.spec (λ c κs. search needs) judge-requires returns (λ c κs. search needs) returns-2)

@@ -5,12 +5,9 @@ use Rattle.rating.specs.Screening.{armoured}
 use Rattle.rating.proofs.screening.armoured.Statement.{statement}
 use Rattle.rating.proofs.screening.armoured.Tie as tie
 
-array-read-result : tie.Need-array-read-result
-array-read-result c = search needs
-
 returns : tie.Need-returns
 unfolding armoured
 returns c = refl
 
 pub armoured-spec : {M : Type 1} → statement M
-armoured-spec = tie.close (tie.spec array-read-result returns)
+armoured-spec = tie.close (tie.spec (λ c. search needs) returns)

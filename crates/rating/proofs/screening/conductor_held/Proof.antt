@@ -4,15 +4,9 @@ use Rattle.rating.specs.Screening.{conductorHeld}
 use Rattle.rating.proofs.screening.conductor_held.Statement.{statement}
 use Rattle.rating.proofs.screening.conductor_held.Tie as tie
 
-array-read-within : tie.Need-array-read-within
-array-read-within c = search needs
-
-within-requires : tie.Need-within-requires
-within-requires c κs = search needs
-
 returns : tie.Need-returns
 unfolding conductorHeld
 returns c = c .within .ensures
 
 pub conductor-held-spec : {M : Type 1} → statement M
-conductor-held-spec = tie.close (tie.spec array-read-within within-requires returns)
+conductor-held-spec = tie.close (tie.spec (λ c. search needs) (λ c κs. search needs) returns)

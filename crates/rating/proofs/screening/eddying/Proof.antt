@@ -5,15 +5,9 @@ use Rattle.rating.specs.Screening.{eddying}
 use Rattle.rating.proofs.screening.eddying.Statement.{statement}
 use Rattle.rating.proofs.screening.eddying.Tie as tie
 
-array-read-result : tie.Need-array-read-result
-array-read-result c = search needs
-
-array-read-result-2 : tie.Need-array-read-result-2
-array-read-result-2 c = search needs
-
 returns : tie.Need-returns
 unfolding eddying
 returns c = refl
 
 pub eddying-spec : {M : Type 1} → statement M
-eddying-spec = tie.close (tie.spec array-read-result array-read-result-2 returns)
+eddying-spec = tie.close (tie.spec (λ c. search needs) (λ c. search needs) returns)

@@ -5,21 +5,6 @@ use Rattle.rating.proofs.Tests.{_and_, unless}
 use Rattle.rating.proofs.screening.limits_held.Statement.{statement}
 use Rattle.rating.proofs.screening.limits_held.Tie as tie
 
-conductor-limits-requires : tie.Need-conductor-limits-requires
-conductor-limits-requires c κs = search needs
-
-sheath-limits-requires : tie.Need-sheath-limits-requires
-sheath-limits-requires c κs = search needs
-
-thermal-limits-requires : tie.Need-thermal-limits-requires
-thermal-limits-requires c κs = search needs
-
-armoured-requires : tie.Need-armoured-requires
-armoured-requires c κs = search needs
-
-armour-limits-requires : tie.Need-armour-limits-requires
-armour-limits-requires c κs = search needs
-
 returns : tie.Need-returns
 unfolding limitsHeld
 returns c =
@@ -32,9 +17,9 @@ pub limits-held-spec : {M : Type 1} → statement M
 limits-held-spec =
     tie.close
     (tie.spec
-    conductor-limits-requires
-    sheath-limits-requires
-    thermal-limits-requires
-    armoured-requires
-    armour-limits-requires
+    (λ c κs. search needs)
+    (λ c κs. search needs)
+    (λ c κs. search needs)
+    (λ c κs. search needs)
+    (λ c κs. search needs)
     returns)

@@ -8,12 +8,6 @@ use Prim.Native.Nat.{_<_}
 use Rattle.rating.proofs.screening.not_hotter.Statement.{statement}
 use Rattle.rating.proofs.screening.not_hotter.Tie as tie
 
-signed-requires : tie.Need-signed-requires
-signed-requires c κs = search needs
-
-signed-requires-2 : tie.Need-signed-requires-2
-signed-requires-2 c κs = search needs
-
 returns : tie.Need-returns
 returns c =
     let args = c .before .before .args in
@@ -22,4 +16,4 @@ returns c =
     ap₂ leZ (read-word theta (c .before .signed .ensures)) (read-word limit (c .signed2 .ensures))
 
 pub not-hotter-spec : {M : Type 1} → statement M
-not-hotter-spec = tie.close (tie.spec signed-requires signed-requires-2 returns)
+not-hotter-spec = tie.close (tie.spec (λ c κs. search needs) (λ c κs. search needs) returns)

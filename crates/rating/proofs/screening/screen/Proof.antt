@@ -28,50 +28,29 @@ held-6 c = sym (c .before .heat-held .ensures) ∙ not-false _ (c .if6 .left)
 held-7 : (c : tie.Else7) → metalHeld (c .before .before .before .before .before .before .before .before .before .before .before .before .before .before .args .x) ≡ true
 held-7 c = sym (c .before .metal-held .ensures) ∙ not-false _ (c .if7 .left)
 
-arrangement-held-requires : tie.Need-arrangement-held-requires
-arrangement-held-requires c κs = search needs
-
 returns : tie.Need-returns
 unfolding screen
 returns c = simp (sym (c .before .arrangement-held .ensures) ∙ not-true _ (c .if1 .taken))
-
-conductor-held-requires : tie.Need-conductor-held-requires
-conductor-held-requires c κs = search needs
 
 returns-2 : tie.Need-returns-2
 unfolding screen
 returns-2 c = simp (held-1 (c .before .before), sym (c .before .conductor-held .ensures) ∙ not-true _ (c .if2 .taken))
 
-limits-held-requires : tie.Need-limits-held-requires
-limits-held-requires c κs = search needs
-
 returns-3 : tie.Need-returns-3
 unfolding screen
 returns-3 c = simp (held-1 (c .before .before .before .before), held-2 (c .before .before), sym (c .before .limits-held .ensures) ∙ not-true _ (c .if3 .taken))
-
-stray-held-requires : tie.Need-stray-held-requires
-stray-held-requires c κs = search needs
 
 returns-4 : tie.Need-returns-4
 unfolding screen
 returns-4 c = simp (held-1 (c .before .before .before .before .before .before), held-2 (c .before .before .before .before), held-3 (c .before .before), sym (c .before .stray-held .ensures) ∙ not-true _ (c .if4 .taken))
 
-geometry-held-requires : tie.Need-geometry-held-requires
-geometry-held-requires c κs = search needs
-
 returns-5 : tie.Need-returns-5
 unfolding screen
 returns-5 c = simp (held-1 (c .before .before .before .before .before .before .before .before), held-2 (c .before .before .before .before .before .before), held-3 (c .before .before .before .before), held-4 (c .before .before), sym (c .before .geometry-held .ensures) ∙ not-true _ (c .if5 .taken))
 
-heat-held-requires : tie.Need-heat-held-requires
-heat-held-requires c κs = search needs
-
 returns-6 : tie.Need-returns-6
 unfolding screen
 returns-6 c = simp (held-1 (c .before .before .before .before .before .before .before .before .before .before), held-2 (c .before .before .before .before .before .before .before .before), held-3 (c .before .before .before .before .before .before), held-4 (c .before .before .before .before), held-5 (c .before .before), sym (c .before .heat-held .ensures) ∙ not-true _ (c .if6 .taken))
-
-metal-held-requires : tie.Need-metal-held-requires
-metal-held-requires c κs = search needs
 
 returns-7 : tie.Need-returns-7
 unfolding screen
@@ -85,18 +64,18 @@ pub screen-spec : {M : Type 1} → statement M
 screen-spec =
     tie.close
     (tie.spec
-    arrangement-held-requires
+    (λ c κs. search needs)
     returns
-    conductor-held-requires
+    (λ c κs. search needs)
     returns-2
-    limits-held-requires
+    (λ c κs. search needs)
     returns-3
-    stray-held-requires
+    (λ c κs. search needs)
     returns-4
-    geometry-held-requires
+    (λ c κs. search needs)
     returns-5
-    heat-held-requires
+    (λ c κs. search needs)
     returns-6
-    metal-held-requires
+    (λ c κs. search needs)
     returns-7
     returns-8)

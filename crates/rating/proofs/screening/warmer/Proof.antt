@@ -22,12 +22,6 @@ difference c =
     let cool : args .ambient < 4294967296 = omega arith in
     difference-is hot cool (c .before .signed .ensures) (c .signed2 .ensures)
 
-signed-requires : tie.Need-signed-requires
-signed-requires c κs = search needs
-
-signed-requires-2 : tie.Need-signed-requires-2
-signed-requires-2 c κs = search needs
-
 sub-result : tie.Need-sub-result
 sub-result c = fits-as (difference c)
 
@@ -35,4 +29,4 @@ returns : tie.Need-returns
 returns c = ap (leZ (pos 500)) (read-as (difference c))
 
 pub warmer-spec : {M : Type 1} → statement M
-warmer-spec = tie.close (tie.spec signed-requires signed-requires-2 sub-result returns)
+warmer-spec = tie.close (tie.spec (λ c κs. search needs) (λ c κs. search needs) sub-result returns)

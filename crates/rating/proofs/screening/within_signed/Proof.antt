@@ -11,9 +11,6 @@ use Prim.Native.Nat.{_<_}
 use Rattle.rating.proofs.screening.within_signed.Statement.{statement}
 use Rattle.rating.proofs.screening.within_signed.Tie as tie
 
-signed-requires : tie.Need-signed-requires
-signed-requires c κs = search needs
-
 returns : tie.Need-returns
 returns c =
     let low = toZ-ofZ w64 (c .before .args .low) (c .before .fits .low) in
@@ -23,4 +20,4 @@ returns c =
     ap₂ leZ low theta and ap₂ leZ theta high
 
 pub within-signed-spec : {M : Type 1} → statement M
-within-signed-spec = tie.close (tie.spec signed-requires returns)
+within-signed-spec = tie.close (tie.spec (λ c κs. search needs) returns)

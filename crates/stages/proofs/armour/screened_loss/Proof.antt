@@ -25,9 +25,6 @@ share-is c =
     c .mul-div-up .ensures
     ∙ ap (λ v2. up (1000000000000 * 1000000000000) (1000000000000 + v2)) (c .before .screening-ratio-squared .ensures)
 
-screening-ratio-squared-requires : tie.Need-screening-ratio-squared-requires
-screening-ratio-squared-requires c κs = search needs
-
 add-mul-div-up : tie.Need-add-mul-div-up
 add-mul-div-up c = omega (arith, v2-most c)
 
@@ -49,7 +46,7 @@ pub screened-loss-spec : {M : Type 1} → statement M
 screened-loss-spec =
     tie.close
     (tie.spec
-    screening-ratio-squared-requires
+    (λ c κs. search needs)
     add-mul-div-up
     mul-div-up-requires
     mul-div-up-trillion-requires

@@ -41,9 +41,6 @@ mul-div-up-requires c κs =
     let da²>0 = mul-pos (c .pre .2) (c .pre .2) in
     (da²>0, fits-up 1000000000000 da²>0 (omega (arith, mul-le-mul (c .pre .4) (c .pre .4))) tt)
 
-armour-resistance-requires : tie.Need-armour-resistance-requires
-armour-resistance-requires c κs = search needs
-
 mul-mul-div-up-4 : tie.Need-mul-mul-div-up-4
 mul-mul-div-up-4 c = omega (arith, r-most c)
 
@@ -69,7 +66,7 @@ unscreened-loss-spec =
     mul-mul-div-up-2
     mul-mul-div-up-3
     mul-div-up-requires
-    armour-resistance-requires
+    (λ c κs. search needs)
     mul-mul-div-up-4
     mul-div-up-requires-2
     returns)

@@ -23,9 +23,6 @@ mul-mul-div-up-2 c = omega (arith, voltage-most c)
 mul-mul-div-up-3 : tie.Need-mul-mul-div-up-3
 mul-mul-div-up-3 c = omega (arith, product-most c)
 
-mul-mul-div-up-4 : tie.Need-mul-mul-div-up-4
-mul-mul-div-up-4 c = search needs
-
 mul-div-up-requires : tie.Need-mul-div-up-requires
 mul-div-up-requires c κs = (omega arith, fits-up 33500000000000000 (omega arith) (omega (arith, mul-le-mul (product-most c) (c .pre .3))) tt)
 
@@ -40,6 +37,6 @@ dielectric-loss-spec =
     mul-mul-div-up
     mul-mul-div-up-2
     mul-mul-div-up-3
-    mul-mul-div-up-4
+    (λ c. search needs)
     mul-div-up-requires
     returns)

@@ -16,15 +16,6 @@ outer-most c =
     let t≤ : c .args .t2 + c .args .t3 + c .args .t4 ≤ 40000000 = omega (arith, c .pre) in
     mul-le-mul n≤ t≤
 
-mul-mul-div-up : tie.Need-mul-mul-div-up
-mul-mul-div-up c = search needs
-
-add-mul-div-up : tie.Need-add-mul-div-up
-add-mul-div-up c = search needs
-
-add-mul-div-up-2 : tie.Need-add-mul-div-up-2
-add-mul-div-up-2 c = search needs
-
 mul-mul-div-up-2 : tie.Need-mul-mul-div-up-2
 mul-mul-div-up-2 c = omega (arith, outer-most c)
 
@@ -46,9 +37,9 @@ pub dielectric-rise-spec : {M : Type 1} → statement M
 dielectric-rise-spec =
     tie.close
     (tie.spec
-    mul-mul-div-up
-    add-mul-div-up
-    add-mul-div-up-2
+    (λ c. search needs)
+    (λ c. search needs)
+    (λ c. search needs)
     mul-mul-div-up-2
     add-mul-div-up-3
     mul-div-up-requires

@@ -21,9 +21,6 @@ known c =
     let k = c .before .before .before .before in
     parts (k .before .pre) (k .octaves .ensures) up-bounded (c .before .mul-div-up .ensures) (c .thirteen-terms-up .ensures)
 
-octaves-requires : tie.Need-octaves-requires
-octaves-requires c κs = search needs
-
 sub-mul-div-up : tie.Need-sub-mul-div-up
 sub-mul-div-up c =
     let k = c .before in
@@ -62,7 +59,7 @@ pub log-high-spec : {M : Type 1} → statement M
 log-high-spec =
     tie.close
     (tie.spec
-    octaves-requires
+    (λ c κs. search needs)
     sub-mul-div-up
     add-mul-div-up
     mul-div-up-requires

@@ -21,9 +21,6 @@ known c =
     let k = c .before .before .before .before in
     parts (k .before .pre) (k .octaves .ensures) down-bounded (c .before .mul-div-down .ensures) (c .thirteen-terms-down .ensures)
 
-octaves-requires : tie.Need-octaves-requires
-octaves-requires c κs = search needs
-
 sub-mul-div-down : tie.Need-sub-mul-div-down
 sub-mul-div-down c =
     let k = c .before in
@@ -59,7 +56,7 @@ pub log-low-spec : {M : Type 1} → statement M
 log-low-spec =
     tie.close
     (tie.spec
-    octaves-requires
+    (λ c κs. search needs)
     sub-mul-div-down
     add-mul-div-down
     mul-div-down-requires

@@ -37,18 +37,6 @@ abbrev μ-loop : tie.MeasureT-loop
 loop-holds : tie.Need-loop-holds Inv-loop μ-loop
 loop-holds c = record { times = omega arith; below = omega arith; few = omega arith }
 
-mul-loop : tie.Need-mul-loop Inv-loop μ-loop
-mul-loop c = omega arith
-
-add-count : tie.Need-add-count Inv-loop μ-loop
-add-count c = omega arith
-
-mul-doubled : tie.Need-mul-doubled Inv-loop μ-loop
-mul-doubled c = omega arith
-
-loop-less : tie.Need-loop-less Inv-loop μ-loop
-loop-less c = omega arith
-
 loop-again : tie.Need-loop-again Inv-loop μ-loop
 loop-again c = again (c .before .loop .inv) (c .loop-test .taken)
 
@@ -67,9 +55,9 @@ octaves-spec =
     Inv-loop
     μ-loop
     loop-holds
-    mul-loop
-    add-count
-    mul-doubled
-    loop-less
+    (λ c. omega arith)
+    (λ c. omega arith)
+    (λ c. omega arith)
+    (λ c. omega arith)
     loop-again
     returns)

@@ -23,18 +23,6 @@ loop-holds c = begin down-bounded (c .before .pre) (c .mul-div-down-trillion .en
 returns : tie.Need-returns Inv-loop μ-loop
 returns c = ended-down (c .before .before .loop .inv) (c .if1 .taken)
 
-mul-sum : tie.Need-mul-sum Inv-loop μ-loop
-mul-sum c = omega arith
-
-mul-sum-2 : tie.Need-mul-sum-2 Inv-loop μ-loop
-mul-sum-2 c = omega arith
-
-add-sum : tie.Need-add-sum Inv-loop μ-loop
-add-sum c = omega arith
-
-div-sum : tie.Need-div-sum Inv-loop μ-loop
-div-sum c = omega arith
-
 add-sum-2 : tie.Need-add-sum-2 Inv-loop μ-loop
 add-sum-2 c = omega (arith, more-total down-bounded (c .before .before .loop .inv) (c .before .loop-test .taken) (term-down _ _))
 
@@ -42,12 +30,6 @@ mul-div-down-trillion-requires-2 : tie.Need-mul-div-down-trillion-requires-2 Inv
 mul-div-down-trillion-requires-2 c κs =
     let s = c .before .before .loop .inv in
     fits (product-most down-bounded _ _ (s .power) (s .ratio))
-
-add-j : tie.Need-add-j Inv-loop μ-loop
-add-j c = omega arith
-
-loop-less : tie.Need-loop-less Inv-loop μ-loop
-loop-less c = omega arith
 
 loop-again : tie.Need-loop-again Inv-loop μ-loop
 loop-again c =
@@ -66,13 +48,13 @@ thirteen-terms-down-spec =
     mul-div-down-trillion-requires
     loop-holds
     returns
-    mul-sum
-    mul-sum-2
-    add-sum
-    div-sum
+    (λ c. omega arith)
+    (λ c. omega arith)
+    (λ c. omega arith)
+    (λ c. omega arith)
     add-sum-2
     mul-div-down-trillion-requires-2
-    add-j
-    loop-less
+    (λ c. omega arith)
+    (λ c. omega arith)
     loop-again
     returns-2)

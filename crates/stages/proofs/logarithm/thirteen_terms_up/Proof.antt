@@ -23,34 +23,10 @@ mul-div-up-trillion-requires c κs = fits (product-most up-bounded _ _ (c .pre) 
 loop-holds : tie.Need-loop-holds Inv-loop μ-loop
 loop-holds c = begin up-bounded (c .before .pre) (c .mul-div-up-trillion .ensures)
 
-sub-result : tie.Need-sub-result Inv-loop μ-loop
-sub-result c = omega arith
-
-add-result : tie.Need-add-result Inv-loop μ-loop
-add-result c = omega arith
-
 returns : tie.Need-returns Inv-loop μ-loop
 returns c =
     let test = both _ _ (c .if1 .taken) in
     ended-up (c .before .before .loop .inv) (eqb-true _ 1 (test .0)) (ltb-true 0 _ (test .1))
-
-mul-sum : tie.Need-mul-sum Inv-loop μ-loop
-mul-sum c = omega arith
-
-mul-sum-2 : tie.Need-mul-sum-2 Inv-loop μ-loop
-mul-sum-2 c = omega arith
-
-add-sum : tie.Need-add-sum Inv-loop μ-loop
-add-sum c = omega arith
-
-mul-sum-3 : tie.Need-mul-sum-3 Inv-loop μ-loop
-mul-sum-3 c = omega arith
-
-add-sum-2 : tie.Need-add-sum-2 Inv-loop μ-loop
-add-sum-2 c = omega arith
-
-div-sum : tie.Need-div-sum Inv-loop μ-loop
-div-sum c = omega arith
 
 add-sum-3 : tie.Need-add-sum-3 Inv-loop μ-loop
 add-sum-3 c = omega (arith, more-total up-bounded (c .before .before .loop .inv) (c .before .loop-test .taken) (term-up _ _))
@@ -59,12 +35,6 @@ mul-div-up-trillion-requires-2 : tie.Need-mul-div-up-trillion-requires-2 Inv-loo
 mul-div-up-trillion-requires-2 c κs =
     let s = c .before .before .loop .inv in
     fits (product-most up-bounded _ _ (s .power) (s .ratio))
-
-add-j : tie.Need-add-j Inv-loop μ-loop
-add-j c = omega arith
-
-loop-less : tie.Need-loop-less Inv-loop μ-loop
-loop-less c = omega arith
 
 loop-again : tie.Need-loop-again Inv-loop μ-loop
 loop-again c =
@@ -82,18 +52,18 @@ thirteen-terms-up-spec =
     μ-loop
     mul-div-up-trillion-requires
     loop-holds
-    sub-result
-    add-result
+    (λ c. omega arith)
+    (λ c. omega arith)
     returns
-    mul-sum
-    mul-sum-2
-    add-sum
-    mul-sum-3
-    add-sum-2
-    div-sum
+    (λ c. omega arith)
+    (λ c. omega arith)
+    (λ c. omega arith)
+    (λ c. omega arith)
+    (λ c. omega arith)
+    (λ c. omega arith)
     add-sum-3
     mul-div-up-trillion-requires-2
-    add-j
-    loop-less
+    (λ c. omega arith)
+    (λ c. omega arith)
     loop-again
     returns-2)

@@ -10,12 +10,6 @@ use Prim.Native.Nat.{_+_, _≤_}
 use Rattle.stages.proofs.proximity.ac_resistance.Statement.{statement}
 use Rattle.stages.proofs.proximity.ac_resistance.Tie as tie
 
-add-mul-div-up-trillion : tie.Need-add-mul-div-up-trillion
-add-mul-div-up-trillion c = search needs
-
-add-mul-div-up-trillion-2 : tie.Need-add-mul-div-up-trillion-2
-add-mul-div-up-trillion-2 c = search needs
-
 mul-div-up-trillion-requires : tie.Need-mul-div-up-trillion-requires
 mul-div-up-trillion-requires c κs =
     let sum≤ : 1000000000000 + c .args .ys + c .args .yp ≤ 1934900000000 = omega arith in
@@ -29,7 +23,7 @@ pub ac-resistance-spec : {M : Type 1} → statement M
 ac-resistance-spec =
     tie.close
     (tie.spec
-    add-mul-div-up-trillion
-    add-mul-div-up-trillion-2
+    (λ c. search needs)
+    (λ c. search needs)
     mul-div-up-trillion-requires
     returns)

@@ -24,12 +24,6 @@ sum-most c =
       c .proximity-h .ensures,
     )
 
-proximity-g-requires : tie.Need-proximity-g-requires
-proximity-g-requires c κs = search needs
-
-proximity-h-requires : tie.Need-proximity-h-requires
-proximity-h-requires c κs = search needs
-
 add-mul-div-up-trillion : tie.Need-add-mul-div-up-trillion
 add-mul-div-up-trillion c = omega (arith, sum-most c)
 
@@ -47,8 +41,8 @@ pub proximity-factor-spec : {M : Type 1} → statement M
 proximity-factor-spec =
     tie.close
     (tie.spec
-    proximity-g-requires
-    proximity-h-requires
+    (λ c κs. search needs)
+    (λ c κs. search needs)
     add-mul-div-up-trillion
     mul-div-up-trillion-requires
     returns)

@@ -8,9 +8,6 @@ use Rattle.stages.proofs.Quotients.{fits-up}
 use Rattle.stages.proofs.proximity.proximity_g.Statement.{statement}
 use Rattle.stages.proofs.proximity.proximity_g.Tie as tie
 
-mul-mul-div-up : tie.Need-mul-mul-div-up
-mul-mul-div-up c = search needs
-
 mul-div-up-requires : tie.Need-mul-div-up-requires
 mul-div-up-requires c κs = (lit< tt, fits-up 80000000000 (lit< tt) (omega (arith, mul-le-mul (c .pre .0) (c .pre .1))) tt)
 
@@ -19,4 +16,4 @@ unfolding proximityG
 returns c = c .mul-div-up .ensures
 
 pub proximity-g-spec : {M : Type 1} → statement M
-proximity-g-spec = tie.close (tie.spec mul-mul-div-up mul-div-up-requires returns)
+proximity-g-spec = tie.close (tie.spec (λ c. search needs) mul-div-up-requires returns)

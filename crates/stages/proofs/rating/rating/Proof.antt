@@ -11,9 +11,6 @@ use Rattle.stages.proofs.rating.rating.Tie as tie
 mul-div-down-requires : tie.Need-mul-div-down-requires
 mul-div-down-requires c κs = (omega arith, fits-down 80000000000000000 (omega arith) (omega arith) tt)
 
-root-requires : tie.Need-root-requires
-root-requires c κs = search needs
-
 returns : tie.Need-returns
 unfolding rating
 returns c =
@@ -22,4 +19,4 @@ returns c =
     root-only (record { below = p .0; above = p .1 }) (root-is q) ∙ ap root (c .before .mul-div-down .ensures)
 
 pub rating-spec : {M : Type 1} → statement M
-rating-spec = tie.close (tie.spec mul-div-down-requires root-requires returns)
+rating-spec = tie.close (tie.spec mul-div-down-requires (λ c κs. search needs) returns)

@@ -18,38 +18,17 @@ outer-most c =
     let losses≤ : c .args .r + c .args .s + c .args .w ≤ 2000000000000000 = omega (arith, c .pre) in
     mul-le-mul (c .pre .0 .0) losses≤
 
-rise-requires : tie.Need-rise-requires
-rise-requires c κs = search needs
-
-add-rise : tie.Need-add-rise
-add-rise c = search needs
-
 mul-rise : tie.Need-mul-rise
 mul-rise c = omega (arith, inner-most (c .before))
 
 rise-requires-2 : tie.Need-rise-requires-2
 rise-requires-2 c κs = omega (arith, inner-most (c .before))
 
-add-result : tie.Need-add-result
-add-result c = search needs
-
-add-rise-2 : tie.Need-add-rise-2
-add-rise-2 c = search needs
-
-add-rise-3 : tie.Need-add-rise-3
-add-rise-3 c = search needs
-
 mul-rise-2 : tie.Need-mul-rise-2
 mul-rise-2 c = omega (arith, outer-most (c .before .before))
 
-add-rise-4 : tie.Need-add-rise-4
-add-rise-4 c = search needs
-
 rise-requires-3 : tie.Need-rise-requires-3
 rise-requires-3 c κs = omega (arith, outer-most (c .before .before))
-
-add-result-2 : tie.Need-add-result-2
-add-result-2 c = search needs
 
 returns : tie.Need-returns
 unfolding unitRise
@@ -59,15 +38,15 @@ pub unit-rise-spec : {M : Type 1} → statement M
 unit-rise-spec =
     tie.close
     (tie.spec
-    rise-requires
-    add-rise
+    (λ c κs. search needs)
+    (λ c. search needs)
     mul-rise
     rise-requires-2
-    add-result
-    add-rise-2
-    add-rise-3
+    (λ c. search needs)
+    (λ c. search needs)
+    (λ c. search needs)
     mul-rise-2
-    add-rise-4
+    (λ c. search needs)
     rise-requires-3
-    add-result-2
+    (λ c. search needs)
     returns)

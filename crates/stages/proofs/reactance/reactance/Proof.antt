@@ -8,15 +8,9 @@ use Prim.Native.Nat.{_*_}
 use Rattle.stages.proofs.reactance.reactance.Statement.{statement}
 use Rattle.stages.proofs.reactance.reactance.Tie as tie
 
-mul-result : tie.Need-mul-result
-mul-result c = search needs
-
-add-result : tie.Need-add-result
-add-result c = search needs
-
 returns : tie.Need-returns
 unfolding reactance piHigh
 returns c = sym (up-code (c .args .f * 31415926536) 250)
 
 pub reactance-spec : {M : Type 1} → statement M
-reactance-spec = tie.close (tie.spec mul-result add-result returns)
+reactance-spec = tie.close (tie.spec (λ c. search needs) (λ c. search needs) returns)

@@ -10,9 +10,6 @@ use Rattle.formulas.specs.Resistance.{resistance}
 use Rattle.stages.proofs.resistance.resistance.Statement.{statement}
 use Rattle.stages.proofs.resistance.resistance.Tie as tie
 
-temperature-factor-requires : tie.Need-temperature-factor-requires
-temperature-factor-requires c κs = search needs
-
 mul-result : tie.Need-mul-result
 mul-result c = omega (arith, mul-le-mul (c .before .pre .0) (c .temperature-factor .ensures .1))
 
@@ -21,4 +18,4 @@ unfolding resistance
 returns c = ap (λ z. c .before .args .field * natAbs z) (c .temperature-factor .ensures .0)
 
 pub resistance-spec : {M : Type 1} → statement M
-resistance-spec = tie.close (tie.spec temperature-factor-requires mul-result returns)
+resistance-spec = tie.close (tie.spec (λ c κs. search needs) mul-result returns)

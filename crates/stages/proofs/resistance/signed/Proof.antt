@@ -23,12 +23,6 @@ high n least most =
 wider : {z : ℤ} → SFits w32 z → SFits w64 z
 wider f = record { sfits = omega arith }
 
-cast-result : tie.Need-cast-result
-cast-result c = search needs
-
-cast-result-2 : tie.Need-cast-result-2
-cast-result-2 c = search needs
-
 sub-result : tie.Need-sub-result
 sub-result c =
     let word : Fits w32 (c .before .args .word) = record { fits = omega arith } in
@@ -41,4 +35,4 @@ returns-2 : tie.Need-returns-2
 returns-2 c = toZ-ofZ w64 _ (sub-result c) ∙ high _ (c .if1 .left) (omega arith)
 
 pub signed-spec : {M : Type 1} → statement M
-signed-spec = tie.close (tie.spec cast-result cast-result-2 sub-result returns returns-2)
+signed-spec = tie.close (tie.spec (λ c. search needs) (λ c. search needs) sub-result returns returns-2)

@@ -72,12 +72,6 @@ within c =
       most = c .before .pre .2;
     }
 
-cast-result : tie.Need-cast-result
-cast-result c = search needs
-
-signed-requires : tie.Need-signed-requires
-signed-requires c κs = search needs
-
 sub-result : tie.Need-sub-result
 sub-result c = fits-as (difference (within c))
 
@@ -100,4 +94,4 @@ returns c =
 pub temperature-factor-spec : {M : Type 1} → statement M
 temperature-factor-spec =
     tie.close
-    (tie.spec cast-result signed-requires sub-result mul-result add-result cast-result-2 returns)
+    (tie.spec (λ c. search needs) (λ c κs. search needs) sub-result mul-result add-result cast-result-2 returns)

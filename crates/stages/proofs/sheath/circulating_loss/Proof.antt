@@ -17,9 +17,6 @@ v2-most c =
     omega
     (arith, bondRatioSquared-most (bondRatio-most (c .before .pre .0) (c .before .pre .1)), c .bond-ratio-squared .ensures)
 
-bond-ratio-squared-requires : tie.Need-bond-ratio-squared-requires
-bond-ratio-squared-requires c κs = search needs
-
 add-mul-div-up : tie.Need-add-mul-div-up
 add-mul-div-up c = omega (arith, v2-most c)
 
@@ -37,4 +34,4 @@ returns c =
 
 pub circulating-loss-spec : {M : Type 1} → statement M
 circulating-loss-spec =
-    tie.close (tie.spec bond-ratio-squared-requires add-mul-div-up mul-div-up-requires returns)
+    tie.close (tie.spec (λ c κs. search needs) add-mul-div-up mul-div-up-requires returns)

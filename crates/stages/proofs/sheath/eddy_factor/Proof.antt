@@ -31,9 +31,6 @@ m2-most c =
     let pre = c .before .before .pre in
     omega (arith, m2-is c, eddyRatioSquared-most (eddyRatio-most (c .before .before .args .b) (pre .0) (pre .2)))
 
-mul-mul-div-up : tie.Need-mul-mul-div-up
-mul-mul-div-up c = search needs
-
 mul-div-up-requires : tie.Need-mul-div-up-requires
 mul-div-up-requires c κs = (omega arith, fits-up 100000000000 (omega arith) (omega arith) tt)
 
@@ -55,7 +52,7 @@ pub eddy-factor-spec : {M : Type 1} → statement M
 eddy-factor-spec =
     tie.close
     (tie.spec
-    mul-mul-div-up
+    (λ c. search needs)
     mul-div-up-requires
     mul-div-up-trillion-requires
     add-mul-div-up

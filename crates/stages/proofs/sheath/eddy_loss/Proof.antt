@@ -35,20 +35,11 @@ cores-most c =
     in
     mul-le-mul j≤ inner≤
 
-eddy-factor-requires : tie.Need-eddy-factor-requires
-eddy-factor-requires c κs = search needs
-
 mul-div-up-trillion-requires : tie.Need-mul-div-up-trillion-requires
 mul-div-up-trillion-requires c κs = fits-up 4070000000000 (lit< tt) (product-most c) tt
 
-mul-mul-div-up-trillion : tie.Need-mul-mul-div-up-trillion
-mul-mul-div-up-trillion c = search needs
-
 mul-mul-div-up-trillion-2 : tie.Need-mul-mul-div-up-trillion-2
 mul-mul-div-up-trillion-2 c = omega (arith, cores-most c)
-
-eddy-spacing-requires : tie.Need-eddy-spacing-requires
-eddy-spacing-requires c κs = search needs
 
 mul-div-up-trillion-requires-2 : tie.Need-mul-div-up-trillion-requires-2
 mul-div-up-trillion-requires-2 c κs =
@@ -70,10 +61,10 @@ pub eddy-loss-spec : {M : Type 1} → statement M
 eddy-loss-spec =
     tie.close
     (tie.spec
-    eddy-factor-requires
+    (λ c κs. search needs)
     mul-div-up-trillion-requires
-    mul-mul-div-up-trillion
+    (λ c. search needs)
     mul-mul-div-up-trillion-2
-    eddy-spacing-requires
+    (λ c κs. search needs)
     mul-div-up-trillion-requires-2
     returns)

@@ -14,9 +14,6 @@ s-most c =
     omega
     (arith, circulatingLoss-most (c .before .args .x) (c .before .args .rs), c .circulating-loss .ensures, c .before .pre .2)
 
-circulating-loss-requires : tie.Need-circulating-loss-requires
-circulating-loss-requires c κs = search needs
-
 mul-result : tie.Need-mul-result
 mul-result c = omega (arith, s-most c)
 
@@ -28,4 +25,4 @@ unfolding slLoss threeHalves
 returns c = sym (up-code (3 * c .circulating-loss .result) 2) ∙ ap (λ s. up (3 * s) 2) (c .circulating-loss .ensures)
 
 pub sl-loss-spec : {M : Type 1} → statement M
-sl-loss-spec = tie.close (tie.spec circulating-loss-requires mul-result add-result returns)
+sl-loss-spec = tie.close (tie.spec (λ c κs. search needs) mul-result add-result returns)

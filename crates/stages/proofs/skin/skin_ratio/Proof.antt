@@ -11,9 +11,6 @@ use Prim.Native.Nat.{_*_, _≤_}
 use Rattle.stages.proofs.skin.skin_ratio.Statement.{statement}
 use Rattle.stages.proofs.skin.skin_ratio.Tie as tie
 
-skin-reactance-requires : tie.Need-skin-reactance-requires
-skin-reactance-requires c κs = search needs
-
 mul-div-up-requires : tie.Need-mul-div-up-requires
 mul-div-up-requires c κs =
     let a≤ : c .skin-reactance .result ≤ 1633628179872 =
@@ -28,4 +25,4 @@ returns c =
     ∙ ap (λ a. up (a * 1000000000000) (c .before .before .args .rc)) (c .before .skin-reactance .ensures)
 
 pub skin-ratio-spec : {M : Type 1} → statement M
-skin-ratio-spec = tie.close (tie.spec skin-reactance-requires mul-div-up-requires returns)
+skin-ratio-spec = tie.close (tie.spec (λ c κs. search needs) mul-div-up-requires returns)

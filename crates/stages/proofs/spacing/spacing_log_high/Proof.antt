@@ -9,12 +9,6 @@ use Rattle.formulas.specs.Laws.LogRange.{logHigh-most}
 use Rattle.stages.proofs.spacing.spacing_log_high.Statement.{statement}
 use Rattle.stages.proofs.spacing.spacing_log_high.Tie as tie
 
-mul-log-high : tie.Need-mul-log-high
-mul-log-high c = search needs
-
-log-high-requires : tie.Need-log-high-requires
-log-high-requires c κs = search needs
-
 add-result : tie.Need-add-result
 add-result c =
     let pre = c .before .before .pre in
@@ -30,4 +24,4 @@ returns-2 c = simp (ne-eqb _ _ (c .if1 .left), add-zero) (c .before .log-high .e
 
 pub spacing-log-high-spec : {M : Type 1} → statement M
 spacing-log-high-spec =
-    tie.close (tie.spec mul-log-high log-high-requires add-result returns returns-2)
+    tie.close (tie.spec (λ c. search needs) (λ c κs. search needs) add-result returns returns-2)

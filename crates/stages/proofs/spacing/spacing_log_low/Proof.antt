@@ -9,12 +9,6 @@ use Rattle.formulas.specs.Laws.LogRange.{logLow-most}
 use Rattle.stages.proofs.spacing.spacing_log_low.Statement.{statement}
 use Rattle.stages.proofs.spacing.spacing_log_low.Tie as tie
 
-mul-log-low : tie.Need-mul-log-low
-mul-log-low c = search needs
-
-log-low-requires : tie.Need-log-low-requires
-log-low-requires c κs = search needs
-
 add-result : tie.Need-add-result
 add-result c =
     let pre = c .before .before .pre in
@@ -30,4 +24,4 @@ returns-2 c = simp (ne-eqb _ _ (c .if1 .left), add-zero) (c .before .log-low .en
 
 pub spacing-log-low-spec : {M : Type 1} → statement M
 spacing-log-low-spec =
-    tie.close (tie.spec mul-log-low log-low-requires add-result returns returns-2)
+    tie.close (tie.spec (λ c. search needs) (λ c κs. search needs) add-result returns returns-2)

@@ -5,21 +5,9 @@ use Rattle.formulas.specs.Tables.{kpTable, entry, kp}
 use Rattle.stages.proofs.tables.kp.Statement.{statement}
 use Rattle.stages.proofs.tables.kp.Tie as tie
 
-sub-result : tie.Need-sub-result
-sub-result c = search needs
-
-cast-result : tie.Need-cast-result
-cast-result c = search needs
-
-mul-result : tie.Need-mul-result
-mul-result c = search needs
-
-array-read-result : tie.Need-array-read-result
-array-read-result c = search needs
-
 returns : tie.Need-returns
 unfolding kpTable entry kp
 returns c = refl
 
 pub kp-spec : {M : Type 1} → statement M
-kp-spec = tie.close (tie.spec sub-result cast-result mul-result array-read-result returns)
+kp-spec = tie.close (tie.spec (λ c. search needs) (λ c. search needs) (λ c. search needs) (λ c. search needs) returns)

@@ -18,12 +18,6 @@ unfolding kept piece
 all-kept room s h =
     ap (λ (n : ℕ). take room (take n s)) (sub-zero (length s)) ∙ ap (take room) (take-length s) ∙ take-all room s h
 
-keep-requires : tie.Need-keep-requires
-keep-requires c κs = search needs
-
-same-length : tie.Need-same-length
-same-length c = search needs
-
 returns : tie.Need-returns
 returns c =
     let done = c .before .before in
@@ -31,4 +25,4 @@ returns c =
     put-as _ _ (all-kept (length (a .out .now) - a .at) (a .bytes .now) (omega arith)) (done .keep .ensures)
 
 pub put-bytes-spec : {M : Type 1} → statement M
-put-bytes-spec = tie.close (tie.spec keep-requires same-length returns)
+put-bytes-spec = tie.close (tie.spec (λ c κs. search needs) (λ c. search needs) returns)

@@ -72,12 +72,6 @@ turn c =
     let a = c .before .before .before .before .before .before .args in
     inside _ _ _ (a .to) (a .chunk .now) _ _ (count-is (c .before .before)) (c .loop-test .taken)
 
-less-requires : tie.Need-less-requires Inv-loop μ-loop
-less-requires c κs = tt
-
-kept-count-requires : tie.Need-kept-count-requires Inv-loop μ-loop
-kept-count-requires c κs = tt
-
 loop-holds : tie.Need-loop-holds Inv-loop μ-loop
 loop-holds c =
     let a = c .before .before .before .before .args in
@@ -97,9 +91,6 @@ slice-write-line c = let h = turn (c .before) in omega arith
 
 add-i : tie.Need-add-i Inv-loop μ-loop
 add-i c = let h = turn (c .before) in omega arith
-
-loop-less : tie.Need-loop-less Inv-loop μ-loop
-loop-less c = omega arith
 
 loop-again : tie.Need-loop-again Inv-loop μ-loop
 loop-again c =
@@ -138,15 +129,15 @@ keep-spec =
     (tie.spec
     Inv-loop
     μ-loop
-    less-requires
-    kept-count-requires
+    (λ c κs. tt)
+    (λ c κs. tt)
     loop-holds
     add-line
     shared-slice-read-line
     add-line-2
     slice-write-line
     add-i
-    loop-less
+    (λ c. omega arith)
     loop-again
     add-result
     same-length

@@ -19,9 +19,6 @@ Inv-loop chunk from i₀ i = from + run isInLine (drop from chunk) ≡ i + run i
 abbrev μ-loop : tie.MeasureT-loop
 μ-loop chunk from i₀ i = length chunk - i
 
-near-line-feed-requires : tie.Need-near-line-feed-requires Inv-loop μ-loop
-near-line-feed-requires c κs = tt
-
 loop-holds : tie.Need-loop-holds Inv-loop μ-loop
 loop-holds c = c .near-line-feed .ensures
 
@@ -33,12 +30,6 @@ unfolding isInLine
 returns c =
     let at-loop = c .before .before .before in
     sym (at-loop .loop .inv ∙ run-stop isInLine _ _ (c .before .before .loop-test .taken) (ap not (eq-eqb _ _ (c .if1 .taken))))
-
-add-i : tie.Need-add-i Inv-loop μ-loop
-add-i c = omega arith
-
-loop-less : tie.Need-loop-less Inv-loop μ-loop
-loop-less c = omega arith
 
 loop-again : tie.Need-loop-again Inv-loop μ-loop
 unfolding isInLine
@@ -52,4 +43,4 @@ returns-2 c = sym (c .before .loop .inv ∙ run-end isInLine _ _ (c .loop-test .
 pub line-feed-spec : {M : Type 1} → statement M
 line-feed-spec =
     tie.close
-    (tie.spec Inv-loop μ-loop near-line-feed-requires loop-holds shared-slice-read-if1 returns add-i loop-less loop-again returns-2)
+    (tie.spec Inv-loop μ-loop (λ c κs. tt) loop-holds shared-slice-read-if1 returns (λ c. omega arith) (λ c. omega arith) loop-again returns-2)

@@ -92,26 +92,8 @@ loop-holds : tie.Need-loop-holds Inv-loop μ-loop
 unfolding width after
 loop-holds c = record { count = omega arith; within = omega arith; room = refl; same = refl }
 
-skip-blanks-requires : tie.Need-skip-blanks-requires Inv-loop μ-loop
-skip-blanks-requires c κs = tt
-
 read-word-requires : tie.Need-read-word-requires Inv-loop μ-loop
 read-word-requires c κs = rw (c .skip-blanks .ensures) (run-within isBlank _ _ (c .before .before .loop .inv .within))
-
-enum-known-said : tie.Need-enum-known-said Inv-loop μ-loop
-enum-known-said c = search needs
-
-mul-fields : tie.Need-mul-fields Inv-loop μ-loop
-mul-fields c = omega arith
-
-array-write-fields : tie.Need-array-write-fields Inv-loop μ-loop
-array-write-fields c = omega arith
-
-enum-told : tie.Need-enum-told Inv-loop μ-loop
-enum-told c = search needs
-
-no-case-requires : tie.Need-no-case-requires Inv-loop μ-loop
-no-case-requires c κs = tt
 
 returns : tie.Need-returns Inv-loop μ-loop
 unfolding width answer piece
@@ -130,9 +112,6 @@ returns c =
     (word .read-word .ensures .0)
     (word .read-word .ensures .1)
     (c .before .enum-told .given .1))
-
-add-i : tie.Need-add-i Inv-loop μ-loop
-add-i c = omega arith
 
 loop-less : tie.Need-loop-less Inv-loop μ-loop
 unfolding width
@@ -155,12 +134,6 @@ loop-again c =
     _
     (c .before .said .given .1)
 
-skip-blanks-requires-2 : tie.Need-skip-blanks-requires-2 Inv-loop μ-loop
-skip-blanks-requires-2 c κs = tt
-
-no-case-requires-2 : tie.Need-no-case-requires-2 Inv-loop μ-loop
-no-case-requires-2 c κs = tt
-
 returns-2 : tie.Need-returns-2 Inv-loop μ-loop
 unfolding width answer
 returns-2 c =
@@ -182,18 +155,18 @@ read-fields-spec =
     Inv-loop
     μ-loop
     loop-holds
-    skip-blanks-requires
+    (λ c κs. tt)
     read-word-requires
-    enum-known-said
-    mul-fields
-    array-write-fields
-    enum-told
-    no-case-requires
+    (λ c. search needs)
+    (λ c. omega arith)
+    (λ c. omega arith)
+    (λ c. search needs)
+    (λ c κs. tt)
     returns
-    add-i
+    (λ c. omega arith)
     loop-less
     loop-again
-    skip-blanks-requires-2
-    no-case-requires-2
+    (λ c κs. tt)
+    (λ c κs. tt)
     returns-2
     returns-3)

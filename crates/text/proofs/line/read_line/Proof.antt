@@ -28,23 +28,14 @@ within : (l : List ℕ) (k : ℕ) → k ≡ textLength l → k ≤ length l
 unfolding textLength
 within l k e = rw e (one-less (eqb (getD l (length l - 1) 0) 13) (length l))
 
-no-case-requires : tie.Need-no-case-requires
-no-case-requires c κs = tt
-
 returns : tie.Need-returns
 unfolding answer readLine
 returns c = c .no-case .ensures ∙ ap answer (sym (too-long width _ (omega arith)))
-
-text-length-requires : tie.Need-text-length-requires
-text-length-requires c κs = tt
 
 slice-aggregate-read-text : tie.Need-slice-aggregate-read-text
 slice-aggregate-read-text c =
     let l = c .before .before .before .before .args .line .now in
     sym (length-take-le _ l (within l _ (c .before .text-length .ensures)))
-
-read-text-requires : tie.Need-read-text-requires
-read-text-requires c κs = tt
 
 returns-2 : tie.Need-returns-2
 unfolding readLine
@@ -53,4 +44,4 @@ returns-2 c =
 
 pub read-line-spec : {M : Type 1} → statement M
 read-line-spec =
-    tie.close (tie.spec no-case-requires returns text-length-requires slice-aggregate-read-text read-text-requires returns-2)
+    tie.close (tie.spec (λ c κs. tt) returns (λ c κs. tt) slice-aggregate-read-text (λ c κs. tt) returns-2)

@@ -28,28 +28,13 @@ other : (n : ℕ) (s : List ℕ) (from : ℕ) → from ≡ 0 + run isBlank (drop
 unfolding says
 other n s from e h k = rw (past-blanks s 0 from e, left s from h, ne-eqb _ _ k)
 
-skip-blanks-requires : tie.Need-skip-blanks-requires
-skip-blanks-requires c κs = tt
-
-no-case-requires : tie.Need-no-case-requires
-no-case-requires c κs = tt
-
 returns : tie.Need-returns
 unfolding answer
 returns c = c .no-case .ensures ∙ ap answer (blank width _ _ (c .before .before .skip-blanks .ensures) (c .before .if1 .taken))
 
-shared-slice-read-if2 : tie.Need-shared-slice-read-if2
-shared-slice-read-if2 c = search needs
-
-no-case-requires-2 : tie.Need-no-case-requires-2
-no-case-requires-2 c κs = tt
-
 returns-2 : tie.Need-returns-2
 unfolding answer
 returns-2 c = c .no-case2 .ensures ∙ ap answer (comment width _ (c .before .if2 .taken))
-
-read-fields-requires : tie.Need-read-fields-requires
-read-fields-requires c κs = tt
 
 returns-3 : tie.Need-returns-3
 returns-3 c =
@@ -61,11 +46,11 @@ pub read-text-spec : {M : Type 1} → statement M
 read-text-spec =
     tie.close
     (tie.spec
-    skip-blanks-requires
-    no-case-requires
+    (λ c κs. tt)
+    (λ c κs. tt)
     returns
-    shared-slice-read-if2
-    no-case-requires-2
+    (λ c. search needs)
+    (λ c κs. tt)
     returns-2
-    read-fields-requires
+    (λ c κs. tt)
     returns-3)

@@ -11,18 +11,6 @@ use Rattle.text.specs.Words.{isInk}
 use Rattle.text.proofs.line.read_word.Statement.{statement}
 use Rattle.text.proofs.line.read_word.Tie as tie
 
-sub-if1 : tie.Need-sub-if1
-sub-if1 c = search needs
-
-leading-digits-requires : tie.Need-leading-digits-requires
-leading-digits-requires c κs = search needs
-
-is-number-requires : tie.Need-is-number-requires
-is-number-requires c κs = search needs
-
-is-past-word-requires : tie.Need-is-past-word-requires
-is-past-word-requires c κs = search needs
-
 cast-t12 : tie.Need-cast-t12
 cast-t12 c =
     let at-test = c .before .before .before in
@@ -36,20 +24,8 @@ returns c =
     let digits = at-test .before .before .leading-digits .ensures .1 in
     (word-ends _ _ _ _ digits past, sym (word-says _ _ _ _ digits (number .0) (number .1)))
 
-skip-word-requires : tie.Need-skip-word-requires
-skip-word-requires c κs = search needs
-
-sub-read-number : tie.Need-sub-read-number
-sub-read-number c = search needs
-
-part-read-number-start : tie.Need-part-read-number-start
-part-read-number-start c = search needs
-
 part-read-number-end : tie.Need-part-read-number-end
 part-read-number-end c = rw (c .skip-word .ensures) (run-within isInk _ _ (c .before .before .before .pre))
-
-read-number-requires : tie.Need-read-number-requires
-read-number-requires c κs = search needs
 
 returns-2 : tie.Need-returns-2
 unfolding piece
@@ -59,15 +35,15 @@ pub read-word-spec : {M : Type 1} → statement M
 read-word-spec =
     tie.close
     (tie.spec
-    sub-if1
-    leading-digits-requires
-    is-number-requires
-    is-past-word-requires
+    (λ c. search needs)
+    (λ c κs. search needs)
+    (λ c κs. search needs)
+    (λ c κs. search needs)
     cast-t12
     returns
-    skip-word-requires
-    sub-read-number
-    part-read-number-start
+    (λ c κs. search needs)
+    (λ c. search needs)
+    (λ c. search needs)
     part-read-number-end
-    read-number-requires
+    (λ c κs. search needs)
     returns-2)

@@ -19,15 +19,6 @@ none (b ∷ l) e = absurd (omega arith)
 returns : tie.Need-returns
 returns c = none _ (c .if1 .taken)
 
-sub-if2 : tie.Need-sub-if2
-sub-if2 c = search needs
-
-shared-slice-read-if2 : tie.Need-shared-slice-read-if2
-shared-slice-read-if2 c = search needs
-
-sub-result : tie.Need-sub-result
-sub-result c = search needs
-
 returns-2 : tie.Need-returns-2
 unfolding textLength
 returns-2 c = simp (eq-eqb _ _ (c .if2 .taken))
@@ -37,4 +28,4 @@ unfolding textLength
 returns-3 c = simp (ne-eqb _ _ (c .if2 .left))
 
 pub text-length-spec : {M : Type 1} → statement M
-text-length-spec = tie.close (tie.spec returns sub-if2 shared-slice-read-if2 sub-result returns-2 returns-3)
+text-length-spec = tie.close (tie.spec returns (λ c. search needs) (λ c. search needs) (λ c. search needs) returns-2 returns-3)

@@ -52,30 +52,15 @@ loop-holds c =
       ap (digitsFrom (a .s .now)) (sym none),
     )
 
-add-b : tie.Need-add-b Inv-loop μ-loop
-add-b c = omega arith
-
-shared-slice-read-b : tie.Need-shared-slice-read-b Inv-loop μ-loop
-shared-slice-read-b c = omega arith
-
 mul-value : tie.Need-mul-value Inv-loop μ-loop
 mul-value c =
     let at-loop = c .before .before .before .before .loop in
     omega (arith, small-most (at-loop .i) (at-loop .value) (at-loop .inv .1) (at-loop .inv .0))
 
-cast-value : tie.Need-cast-value Inv-loop μ-loop
-cast-value c = omega arith
-
 add-value : tie.Need-add-value Inv-loop μ-loop
 add-value c =
     let at-loop = c .before .before .before .before .loop in
     omega (arith, small-most (at-loop .i) (at-loop .value) (at-loop .inv .1) (at-loop .inv .0))
-
-add-i : tie.Need-add-i Inv-loop μ-loop
-add-i c = omega arith
-
-loop-less : tie.Need-loop-less Inv-loop μ-loop
-loop-less c = omega arith
 
 loop-again : tie.Need-loop-again Inv-loop μ-loop
 unfolding digitsFrom
@@ -117,13 +102,13 @@ leading-digits-spec =
     Inv-loop
     μ-loop
     loop-holds
-    add-b
-    shared-slice-read-b
+    (λ c. omega arith)
+    (λ c. omega arith)
     mul-value
-    cast-value
+    (λ c. omega arith)
     add-value
-    add-i
-    loop-less
+    (λ c. omega arith)
+    (λ c. omega arith)
     loop-again
     add-t12
     returns)

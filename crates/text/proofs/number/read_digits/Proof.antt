@@ -35,18 +35,6 @@ returns-3 c =
     let at-loop = c .before .before .before .before in
     sym (at-loop .loop .inv .1 ∙ onward-high _ _ _ _ (c .before .before .before .loop-test .taken) (omega arith))
 
-cast-next : tie.Need-cast-next Inv-loop μ-loop
-cast-next c = omega arith
-
-mul-next : tie.Need-mul-next Inv-loop μ-loop
-mul-next c = omega arith
-
-cast-next-2 : tie.Need-cast-next-2 Inv-loop μ-loop
-cast-next-2 c = omega arith
-
-add-next : tie.Need-add-next Inv-loop μ-loop
-add-next c = omega arith
-
 -- a digit was read
 turn : (c : tie.Else3 Inv-loop μ-loop)
     → let at-turn = c .before .before .before in
@@ -60,15 +48,6 @@ turn c =
 
 returns-4 : tie.Need-returns-4 Inv-loop μ-loop
 returns-4 c = sym (turn (c .before) ∙ onward-over _ _ _ (c .if4 .taken))
-
-cast-x : tie.Need-cast-x Inv-loop μ-loop
-cast-x c = omega arith
-
-add-i : tie.Need-add-i Inv-loop μ-loop
-add-i c = omega arith
-
-loop-less : tie.Need-loop-less Inv-loop μ-loop
-loop-less c = omega arith
 
 loop-again : tie.Need-loop-again Inv-loop μ-loop
 loop-again c = (c .if4 .left, turn (c .before))
@@ -87,13 +66,13 @@ read-digits-spec =
     shared-slice-read-b
     returns-2
     returns-3
-    cast-next
-    mul-next
-    cast-next-2
-    add-next
+    (λ c. omega arith)
+    (λ c. omega arith)
+    (λ c. omega arith)
+    (λ c. omega arith)
     returns-4
-    cast-x
-    add-i
-    loop-less
+    (λ c. omega arith)
+    (λ c. omega arith)
+    (λ c. omega arith)
     loop-again
     returns-5)

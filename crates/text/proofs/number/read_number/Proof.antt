@@ -33,41 +33,8 @@ minus w r h e =
 returns : tie.Need-returns
 returns c = empty _ (c .if1 .taken)
 
-shared-slice-read-if2 : tie.Need-shared-slice-read-if2
-shared-slice-read-if2 c = search needs
-
-read-digits-requires : tie.Need-read-digits-requires
-read-digits-requires c κs = tt
-
 returns-2 : tie.Need-returns-2
 returns-2 c = c .read-digits .ensures ∙ plain _ (c .before .if2 .taken)
-
-sub-read-digits : tie.Need-sub-read-digits
-sub-read-digits c = search needs
-
-part-read-digits-start : tie.Need-part-read-digits-start
-part-read-digits-start c = search needs
-
-part-read-digits-end : tie.Need-part-read-digits-end
-part-read-digits-end c = search needs
-
-read-digits-requires-2 : tie.Need-read-digits-requires-2
-read-digits-requires-2 c κs = tt
-
-enum-known-x : tie.Need-enum-known-x
-enum-known-x c = search needs
-
-cast-t12 : tie.Need-cast-t12
-cast-t12 c = search needs
-
-sub-t13 : tie.Need-sub-t13
-sub-t13 c = search needs
-
-cast-t15 : tie.Need-cast-t15
-cast-t15 c = search needs
-
-enum-told : tie.Need-enum-told
-enum-told c = search needs
 
 returns-3 : tie.Need-returns-3
 unfolding negated
@@ -86,17 +53,17 @@ read-number-spec =
     tie.close
     (tie.spec
     returns
-    shared-slice-read-if2
-    read-digits-requires
+    (λ c. search needs)
+    (λ c κs. tt)
     returns-2
-    sub-read-digits
-    part-read-digits-start
-    part-read-digits-end
-    read-digits-requires-2
-    enum-known-x
-    cast-t12
-    sub-t13
-    cast-t15
-    enum-told
+    (λ c. search needs)
+    (λ c. search needs)
+    (λ c. search needs)
+    (λ c κs. tt)
+    (λ c. search needs)
+    (λ c. search needs)
+    (λ c. search needs)
+    (λ c. search needs)
+    (λ c. search needs)
     returns-3
     returns-4)

@@ -9,12 +9,6 @@ use Rattle.text.specs.Words.{isInk}
 use Rattle.text.proofs.words.is_past_word.Statement.{statement}
 use Rattle.text.proofs.words.is_past_word.Tie as tie
 
-shared-slice-read-is-blank : tie.Need-shared-slice-read-is-blank
-shared-slice-read-is-blank c = search needs
-
-is-blank-requires : tie.Need-is-blank-requires
-is-blank-requires c κs = search needs
-
 returns : tie.Need-returns
 unfolding isInk
 returns c =
@@ -28,4 +22,4 @@ returns-2 c =
 
 pub is-past-word-spec : {M : Type 1} → statement M
 is-past-word-spec =
-    tie.close (tie.spec shared-slice-read-is-blank is-blank-requires returns returns-2)
+    tie.close (tie.spec (λ c. search needs) (λ c κs. search needs) returns returns-2)

@@ -23,20 +23,11 @@ loop-holds c = refl
 shared-slice-read-is-blank : tie.Need-shared-slice-read-is-blank Inv-loop μ-loop
 shared-slice-read-is-blank c = c .before .loop-test .taken
 
-is-blank-requires : tie.Need-is-blank-requires Inv-loop μ-loop
-is-blank-requires c κs = tt
-
 returns : tie.Need-returns Inv-loop μ-loop
 returns c =
     let at-turn = c .before .before .before in
     let test = c .before .is-blank .ensures in
     sym (at-turn .before .loop .inv ∙ run-stop isBlank _ _ (at-turn .loop-test .taken) (sym test ∙ not-true _ (c .if1 .taken)))
-
-add-i : tie.Need-add-i Inv-loop μ-loop
-add-i c = omega arith
-
-loop-less : tie.Need-loop-less Inv-loop μ-loop
-loop-less c = omega arith
 
 loop-again : tie.Need-loop-again Inv-loop μ-loop
 loop-again c =
@@ -50,4 +41,4 @@ returns-2 c = sym (c .before .loop .inv ∙ run-end isBlank _ _ (c .loop-test .l
 pub skip-blanks-spec : {M : Type 1} → statement M
 skip-blanks-spec =
     tie.close
-    (tie.spec Inv-loop μ-loop loop-holds shared-slice-read-is-blank is-blank-requires returns add-i loop-less loop-again returns-2)
+    (tie.spec Inv-loop μ-loop loop-holds shared-slice-read-is-blank (λ c κs. tt) returns (λ c. omega arith) (λ c. omega arith) loop-again returns-2)

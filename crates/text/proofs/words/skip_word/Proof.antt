@@ -23,21 +23,12 @@ loop-holds c = refl
 shared-slice-read-is-blank : tie.Need-shared-slice-read-is-blank Inv-loop μ-loop
 shared-slice-read-is-blank c = c .before .loop-test .taken
 
-is-blank-requires : tie.Need-is-blank-requires Inv-loop μ-loop
-is-blank-requires c κs = tt
-
 returns : tie.Need-returns Inv-loop μ-loop
 unfolding isInk
 returns c =
     let at-turn = c .before .before .before in
     let test = c .before .is-blank .ensures in
     sym (at-turn .before .loop .inv ∙ run-stop isInk _ _ (at-turn .loop-test .taken) (ap not (sym test ∙ c .if1 .taken)))
-
-add-i : tie.Need-add-i Inv-loop μ-loop
-add-i c = omega arith
-
-loop-less : tie.Need-loop-less Inv-loop μ-loop
-loop-less c = omega arith
 
 loop-again : tie.Need-loop-again Inv-loop μ-loop
 unfolding isInk
@@ -52,4 +43,4 @@ returns-2 c = sym (c .before .loop .inv ∙ run-end isInk _ _ (c .loop-test .lef
 pub skip-word-spec : {M : Type 1} → statement M
 skip-word-spec =
     tie.close
-    (tie.spec Inv-loop μ-loop loop-holds shared-slice-read-is-blank is-blank-requires returns add-i loop-less loop-again returns-2)
+    (tie.spec Inv-loop μ-loop loop-holds shared-slice-read-is-blank (λ c κs. tt) returns (λ c. omega arith) (λ c. omega arith) loop-again returns-2)

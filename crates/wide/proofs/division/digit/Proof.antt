@@ -13,12 +13,6 @@ have-room s = have-below (s .args .u) (s .args .next) (s .args .v) (s .pre)
 owed-room : (s : tie.Start) → owed (s .args .u) (s .args .v) < 2 ^ 64
 owed-room s = owed-fits (s .args .u) (s .args .next) (s .args .v) (s .pre)
 
-div-q : tie.Need-div-q
-div-q c = search needs
-
-rem-have : tie.Need-rem-have
-rem-have c = search needs
-
 mul-have : tie.Need-mul-have
 mul-have c = omega (arith, have-room c)
 
@@ -28,19 +22,10 @@ add-have c = omega (arith, have-room c)
 mul-owed : tie.Need-mul-owed
 mul-owed c = record { fits = owed-room c }
 
-excess-requires : tie.Need-excess-requires
-excess-requires c κs = search needs
-
 two-less : tie.Need-sub-t12
 two-less c =
     let s = c .before .before in
     omega (arith, more-than (s .args .u) (s .args .next) (s .args .v) (s .pre) 1 (omega arith))
-
-sub-t13 : tie.Need-sub-t13
-sub-t13 c = search needs
-
-sub-t14 : tie.Need-sub-t14
-sub-t14 c = search needs
 
 returns : tie.Need-returns
 returns c =
@@ -50,16 +35,10 @@ returns c =
     (omega (arith, owed-room s))
     (omega (arith, owed-room s))
 
-sign-requires : tie.Need-sign-requires
-sign-requires c κs = search needs
-
 sign-less : tie.Need-sub-t9
 sign-less c =
     let s = c .before .before .before in
     one-off (s .args .u) (s .args .next) (s .args .v) (s .pre) (c .sign .result) (omega arith) (omega arith)
-
-remaining-requires : tie.Need-remaining-requires
-remaining-requires c κs = search needs
 
 returns-2 : tie.Need-returns-2
 returns-2 c =
@@ -73,17 +52,17 @@ pub digit-spec : {M : Type 1} → statement M
 digit-spec =
     tie.close
     (tie.spec
-    div-q
-    rem-have
+    (λ c. search needs)
+    (λ c. search needs)
     mul-have
     add-have
     mul-owed
-    excess-requires
+    (λ c κs. search needs)
     two-less
-    sub-t13
-    sub-t14
+    (λ c. search needs)
+    (λ c. search needs)
     returns
-    sign-requires
+    (λ c κs. search needs)
     sign-less
-    remaining-requires
+    (λ c κs. search needs)
     returns-2)

@@ -37,30 +37,6 @@ module _ (h l c s : ℕ) (h<c : h < c) (l< : l < 2 ^ 64) (s< : (s < 64) × (2 ^ 
       subst (λ (x : ℕ). x * 2 ^ 64 + l * 2 ^ s % 2 ^ 64 ≡ (h * 2 ^ 64 + l) * 2 ^ s) top-is
       (shifted-is h l (2 ^ s) (2 ^ 64))
 
-shift-of-requires : tie.Need-shift-of-requires
-shift-of-requires c κs = search needs
-
-cast-v : tie.Need-cast-v
-cast-v c = search needs
-
-shl-v : tie.Need-shl-v
-shl-v c = search needs
-
-cast-u : tie.Need-cast-u
-cast-u c = search needs
-
-shl-u : tie.Need-shl-u
-shl-u c = search needs
-
-sub-u : tie.Need-sub-u
-sub-u c = search needs
-
-cast-u-2 : tie.Need-cast-u-2
-cast-u-2 c = search needs
-
-shr-u : tie.Need-shr-u
-shr-u c = search needs
-
 u-below : (c : tie.After-shift-of) →
     let a = c .before .args in top (a .hi) (a .lo) (c .shift-of .result) < a .c * 2 ^ c .shift-of .result
 u-below c =
@@ -70,17 +46,8 @@ u-below c =
 add-u : tie.Need-add-u
 add-u c = omega (arith, u-below c)
 
-cast-low : tie.Need-cast-low
-cast-low c = search needs
-
-shl-low : tie.Need-shl-low
-shl-low c = search needs
-
 digit-requires : tie.Need-digit-requires
 digit-requires c κs = let below = u-below c in (omega arith, omega arith, omega arith)
-
-digit-requires-2 : tie.Need-digit-requires-2
-digit-requires-2 c κs = search needs
 
 answer : (c : tie.After-digit2) →
     let a = c .before .before .before .args in
@@ -108,12 +75,6 @@ mul-t15 c = omega (arith, quotient-fits (c .before))
 add-t10 : tie.Need-add-t10
 add-t10 c = record { fits = quotient-fits (c .before .before) }
 
-cast-t14 : tie.Need-cast-t14
-cast-t14 c = search needs
-
-shr-t11 : tie.Need-shr-t11
-shr-t11 c = search needs
-
 returns : tie.Need-returns
 returns c = answer (c .before .before .before)
 
@@ -121,21 +82,21 @@ pub long-spec : {M : Type 1} → statement M
 long-spec =
     tie.close
     (tie.spec
-    shift-of-requires
-    cast-v
-    shl-v
-    cast-u
-    shl-u
-    sub-u
-    cast-u-2
-    shr-u
+    (λ c κs. search needs)
+    (λ c. search needs)
+    (λ c. search needs)
+    (λ c. search needs)
+    (λ c. search needs)
+    (λ c. search needs)
+    (λ c. search needs)
+    (λ c. search needs)
     add-u
-    cast-low
-    shl-low
+    (λ c. search needs)
+    (λ c. search needs)
     digit-requires
-    digit-requires-2
+    (λ c κs. search needs)
     mul-t15
     add-t10
-    cast-t14
-    shr-t11
+    (λ c. search needs)
+    (λ c. search needs)
     returns)

@@ -48,12 +48,6 @@ add-t12 c = let r = room c in omega arith
 add-t14 : tie.Need-add-t14
 add-t14 c = let r = room c in omega arith
 
-mul-t16 : tie.Need-mul-t16
-mul-t16 c = search needs
-
-add-t18 : tie.Need-add-t18
-add-t18 c = search needs
-
 returns : tie.Need-returns
 unfolding value
 returns c = columns 4294967296 (c .args .a) (c .args .b)
@@ -70,6 +64,6 @@ product-spec =
     mul-t10
     add-t12
     add-t14
-    mul-t16
-    add-t18
+    (λ c. search needs)
+    (λ c. search needs)
     returns)

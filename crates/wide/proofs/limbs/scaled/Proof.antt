@@ -17,9 +17,6 @@ module _ (h l k h′ l′ β : ℕ) (e : h′ * β + l′ ≡ l * k) where
   upper : (h * β + l) * k < β * β → h * k + h′ < β
   upper = upper-fits (h * k + h′) ((h * β + l) * k) β (omega arith)
 
-product-requires : tie.Need-product-requires
-product-requires c κs = search needs
-
 mul-t4 : tie.Need-mul-t4
 unfolding value
 mul-t4 c = omega (arith, upper _ _ _ _ _ (2 ^ 64) (c .before .product .ensures) (c .before .before .pre))
@@ -33,4 +30,4 @@ unfolding value
 returns c = gathered _ _ _ _ _ (2 ^ 64) (c .before .before .product .ensures)
 
 pub scaled-spec : {M : Type 1} → statement M
-scaled-spec = tie.close (tie.spec product-requires mul-t4 add-t5 returns)
+scaled-spec = tie.close (tie.spec (λ c κs. search needs) mul-t4 add-t5 returns)

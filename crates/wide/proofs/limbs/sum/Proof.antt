@@ -12,15 +12,9 @@ use Rattle.wide.proofs.limbs.sum.Tie as tie
 carried : (k h l h′ l′ β : ℕ) → h * β + l + (h′ * β + l′) < β * β → k * β ≤ l + l′ → h + h′ + k < β
 carried k h l h′ l′ β fits carry = upper-fits (h + h′ + k) (h * β + l + (h′ * β + l′)) β (omega arith) fits
 
-sub-room : tie.Need-sub-room
-sub-room c = search needs
-
 add-t5 : tie.Need-add-t5
 unfolding value
 add-t5 c = omega (arith, carried 0 _ _ _ _ (2 ^ 64) (c .before .before .before .before .before .pre) (omega arith))
-
-add-t6 : tie.Need-add-t6
-add-t6 c = search needs
 
 returns : tie.Need-returns
 unfolding value
@@ -33,16 +27,10 @@ add-t8 c = record { fits = carried 1 _ _ _ _ (2 ^ 64) (c .before .before .before
 add-t7 : tie.Need-add-t7
 add-t7 c = omega (arith, add-t8 c)
 
-sub-t9 : tie.Need-sub-t9
-sub-t9 c = search needs
-
-sub-t10 : tie.Need-sub-t10
-sub-t10 c = search needs
-
 returns-2 : tie.Need-returns-2
 unfolding value
 returns-2 c = omega arith
 
 pub sum-spec : {M : Type 1} → statement M
 sum-spec =
-    tie.close (tie.spec sub-room add-t5 add-t6 returns add-t7 add-t8 sub-t9 sub-t10 returns-2)
+    tie.close (tie.spec (λ c. search needs) add-t5 (λ c. search needs) returns add-t7 add-t8 (λ c. search needs) (λ c. search needs) returns-2)

@@ -8,14 +8,8 @@ use Rattle.wide.proofs.LongDivision.{two-digits}
 use Rattle.wide.proofs.quotient.divided.Statement.{statement}
 use Rattle.wide.proofs.quotient.divided.Tie as tie
 
-rem-divide : tie.Need-rem-divide
-rem-divide c = search needs
-
 divide-requires : tie.Need-divide-requires
 divide-requires c κs = mod-lt _ (c .before .pre)
-
-div-t4 : tie.Need-div-t4
-div-t4 c = search needs
 
 returns : tie.Need-returns
 unfolding value
@@ -24,4 +18,4 @@ returns c =
     two-digits (at-start .args .w .lo) (2 ^ 64) (divided (at-start .args .w .hi) (at-start .pre)) (c .before .divide .ensures)
 
 pub divided-spec : {M : Type 1} → statement M
-divided-spec = tie.close (tie.spec rem-divide divide-requires div-t4 returns)
+divided-spec = tie.close (tie.spec (λ c. search needs) divide-requires (λ c. search needs) returns)

@@ -4,11 +4,8 @@ use Rattle.wide.specs.Split.{split-down}
 use Rattle.wide.proofs.quotient.quotient_down.Statement.{statement}
 use Rattle.wide.proofs.quotient.quotient_down.Tie as tie
 
-divided-requires : tie.Need-divided-requires
-divided-requires c κs = search needs
-
 returns : tie.Need-returns
 returns c = split-down (c .before .divided .ensures)
 
 pub quotient-down-spec : {M : Type 1} → statement M
-quotient-down-spec = tie.close (tie.spec divided-requires returns)
+quotient-down-spec = tie.close (tie.spec (λ c κs. search needs) returns)

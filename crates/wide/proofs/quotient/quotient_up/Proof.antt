@@ -11,9 +11,6 @@ use Rattle.wide.specs.Split.{split-up, split-more, upward-none, upward-s
 use Rattle.wide.proofs.quotient.quotient_up.Statement.{statement}
 use Rattle.wide.proofs.quotient.quotient_up.Tie as tie
 
-divided-requires : tie.Need-divided-requires
-divided-requires c κs = search needs
-
 returns : tie.Need-returns
 returns c = sym (upward-none _ _ (c .before .if1 .taken)) ∙ split-up (c .before .before .before .divided .ensures)
 
@@ -39,4 +36,4 @@ returns-2 c =
     ∙ split-up (d .ensures)
 
 pub quotient-up-spec : {M : Type 1} → statement M
-quotient-up-spec = tie.close (tie.spec divided-requires returns sum-requires returns-2)
+quotient-up-spec = tie.close (tie.spec (λ c κs. search needs) returns sum-requires returns-2)

@@ -22,17 +22,11 @@ rise-below p right = omega (arith, bulge-below p right)
 risen-below : (p right : ℕ) → right < 65536 → rise p right * right ≤ 2097152 * 65536
 risen-below p right h = mul-le-mul {n₂ = 2097152} {m₂ = 65536} (rise-below p right) (omega arith)
 
-sub-bulge : tie.Need-sub-bulge
-sub-bulge c = search needs
-
 mul-bulge : tie.Need-mul-bulge
 mul-bulge c = omega (arith, bulge-below (c .args .p) (c .args .right))
 
 add-rise : tie.Need-add-rise
 add-rise c = omega (arith, rise-below (c .args .p) (c .args .right))
-
-mul-result : tie.Need-mul-result
-mul-result c = search needs
 
 mul-result-2 : tie.Need-mul-result-2
 mul-result-2 c = omega (arith, risen-below (c .args .p) (c .args .right) (c .pre))
@@ -45,4 +39,4 @@ add-result c = omega (arith, returns c)
 
 pub point-spec : {M : Type 1} → statement M
 point-spec =
-    tie.close (tie.spec sub-bulge mul-bulge add-rise mul-result mul-result-2 add-result returns)
+    tie.close (tie.spec (λ c. search needs) mul-bulge add-rise (λ c. search needs) mul-result-2 add-result returns)

@@ -14,18 +14,6 @@ Inv-loop x r₀ r = (r < 4294967296) × (x < (r + 1) * (r + 1))
 abbrev μ-loop : tie.MeasureT-loop
 μ-loop x r₀ r = r
 
-returns : tie.Need-returns Inv-loop μ-loop
-returns c = search needs
-
-guess-requires : tie.Need-guess-requires Inv-loop μ-loop
-guess-requires c κs = search needs
-
-stepped-requires : tie.Need-stepped-requires Inv-loop μ-loop
-stepped-requires c κs = search needs
-
-loop-holds : tie.Need-loop-holds Inv-loop μ-loop
-loop-holds c = search needs
-
 mul-loop : tie.Need-mul-loop Inv-loop μ-loop
 mul-loop c = omega (arith, halves (c .loop .inv .0) (c .loop .inv .0))
 
@@ -50,10 +38,10 @@ root-spec =
     (tie.spec
     Inv-loop
     μ-loop
-    returns
-    guess-requires
-    stepped-requires
-    loop-holds
+    (λ c. search needs)
+    (λ c κs. search needs)
+    (λ c κs. search needs)
+    (λ c. search needs)
     mul-loop
     div-r
     add-r

@@ -9,9 +9,6 @@ use Rattle.wide.specs.Split.{Split, high-below}
 use Rattle.wide.proofs.trillion.mul_div.Statement.{statement}
 use Rattle.wide.proofs.trillion.mul_div.Tie as tie
 
-product-requires : tie.Need-product-requires
-product-requires c κs = search needs
-
 divide-requires : tie.Need-divide-requires
 unfolding value
 divide-requires c κs =
@@ -24,4 +21,4 @@ returns c =
     subst (λ (n : ℕ). Split n 1000000000000 (d .quotient) (d .rest)) (c .before .product .ensures) (c .divide .ensures)
 
 pub mul-div-spec : {M : Type 1} → statement M
-mul-div-spec = tie.close (tie.spec product-requires divide-requires returns)
+mul-div-spec = tie.close (tie.spec (λ c κs. search needs) divide-requires returns)

@@ -1,0 +1,76 @@
+// Evidence from outside the proofs: cases with what they must get, from standard input, and what was compared. A case's line is followed by a
+// line that says what the program `rate` must print for it, or by `r LOW HIGH`: its rating lies between these, ends included (mA). Empty
+// lines and lines that begin with `#` are passed over where a case may stand.
+ghost use Prim.Native.Nat.{_≤_};
+ghost use lib.ListN.{length};
+
+mod expected;
+mod tally;
+mod two_records;
+
+use libc::STDOUT_FILENO;
+use tally::Tally;
+use tally::nothing;
+
+// The rating of the case that a line holds, or 0.
+fn rating_of(line: &[u8]) -> u64 {
+    let said = text::line::read_line(line);
+    if said.kind == 1 {
+        let fields = said.fields;
+        return rating::rate::rate(fields).rating as u64;
+    }
+    0
+}
+
+// A line is a case, whose text is then put into `out`, or what the case before it must get.
+fn turn(t: Tally, out: &mut [u8], number: u64, line: &[u8], len: usize) -> Tally
+    requires { ⌜ (512 ≤ length (now out)) × (t .printed ≤ 512) × (len ≤ length (now line)) ⌝ }
+    ensures { λ r. ⌜ r .printed ≤ 512 ⌝ }
+{
+    let part = &line[..len];
+    let printed = t.printed;
+    if printed == 0 {
+        let text = rate_text::print_line(out, 0, number, part);
+        return t.waiting(text, rating_of(part));
+    }
+    if expected::is_range(part) {
+        return t.published(expected::is_within(part, t.rating));
+    }
+    t.compared(expected::is_same(&out[..printed], part))
+}
+
+fn serve(chunk: &mut [u8], line: &mut [u8], out: &mut [u8]) -> Tally
+    requires { ⌜ 512 ≤ length (now out) ⌝ }
+{
+    let mut from = input::start();
+    let mut t = nothing();
+    let mut number: u64 = 0;
+    while number < u64::MAX {
+        let next = input::next_line(chunk, line, from);
+        if !next.found {
+            return t;
+        }
+        number += 1;
+        t = turn(t, out, number, line, next.len);
+        from = next.next;
+    }
+    t
+}
+
+fn say(count: u64, words: &[u8]) {
+    io::print_decimal(STDOUT_FILENO, count);
+    io::write_all(STDOUT_FILENO, words);
+}
+
+fn main() {
+    let mut chunk = io::large_buffer();
+    let mut line = [0u8; 1024];
+    let mut out = io::large_buffer();
+    let t = serve(&mut chunk, &mut line, &mut out);
+    say(t.cases, b" cases compared, ");
+    say(t.differing, b" differ\n");
+    say(t.ranges, b" published ratings held to their tolerance, ");
+    say(t.outside, b" outside\n");
+    io::write_all(STDOUT_FILENO, b"a book of 2 records has the distance ");
+    say(two_records::distance_of_two(), b"\n");
+}

@@ -1,0 +1,50 @@
+// A book built from text, for the program `keep`: its note from words, and a record from each line that is a case.
+ghost use mathlib.Core.Path.{_≡_};
+ghost use Prim.Native.Nat.{_+_, _-_};
+ghost use lib.ListN.{length, take};
+ghost use Rattle.keep_book.specs.Keeping.{nextWord, keepOf, keptOf};
+ghost use Rattle.splice.specs.Splice.{splice};
+use book::append::append;
+use text::gather::keep;
+use text::line::read_line;
+
+// Adds a word to a note of `len` bytes at the front of the buffer, after a blank unless it is the first, and answers the new length.
+// Of a note longer than the buffer as much is kept as fits, for which `start` has then no room.
+pub fn add_word(buffer: &mut [u8], len: usize, first: bool, word: &[u8]) -> usize
+    ensures { λ r. ⌜ (let k = take (length (now (buffer .entry)) - len) (nextWord first (now (word .entry))) in
+        (r ≡ len + length k) × (now (buffer .exit) ≡ splice (now (buffer .entry)) len k)) ⌝ }
+{
+    if first {
+        return keep(buffer, len, word, 0, word.len());
+    }
+    let from = keep(buffer, len, b" ", 0, 1);
+    keep(buffer, from, word, 0, word.len())
+}
+
+// What became of a line: whether it could be read, 0 or the number by which `append` refused its case, and the used length.
+pub struct Kept {
+    pub readable: bool,
+    pub number: u32,
+    pub used: usize,
+}
+
+// Appends a line's case to a book. A line that is passed over or cannot be read changes nothing.
+pub fn keep_line(buffer: &mut [u8], used: usize, line: &[u8]) -> Kept
+    ensures { λ r. ⌜ keptOf r (now (buffer .exit)) ≡ keepOf (now (buffer .entry)) used (now (line .entry)) ⌝ }
+{
+    let said = read_line(line);
+    if said.kind != 1 {
+        return Kept {
+            readable: said.kind == 0,
+            number: 0,
+            used,
+        };
+    }
+    let fields = said.fields;
+    let written = append(buffer, used, fields);
+    Kept {
+        readable: true,
+        number: written.number,
+        used: written.used,
+    }
+}

@@ -1,0 +1,183 @@
+-- `line_in_place::plain::plain_line` meets its contract. The invariant: the numbers read so far are a row, and each took twelve bytes at most. The
+-- measure is the count of numbers that are left before the last.
+-- Assumes nothing.
+use mathlib.Core.Bool.{Bool, true, false, cond}
+use mathlib.Core.List.{List, [], _∷_, _++_}
+use mathlib.Core.Path.{_≡_, refl, sym, ap, subst, _∙_}
+use Prim.Native.Nat.{ℕ, suc, _+_, _-_, _*_, _≤_, _<_}
+use native.Mathlib.Nat.{le-refl}
+use native.Mathlib.Numerals.{add-one}
+use native.Mathlib.Omega.{arith}
+use borrow.Author.Tests.{not-false}
+use lib.Dec.{eqb, lit≤}
+use lib.ListN.{length, getD, take, set, length-set}
+use lib.Seq.{take-all, take-suc-set}
+use Rattle.bools.specs.Tests.{other-outcome}
+use Rattle.line_in_place.specs.NumberAt.{NumberAt}
+use Rattle.line_in_place.specs.Row.{PlainLine, longest, Row, row-none, row-more, row-ends}
+use Rattle.text.specs.Line.{width}
+use Rattle.text.specs.Words.{isBlank}
+use Rattle.line_in_place.proofs.plain.plain_line.Statement.{statement}
+use Rattle.line_in_place.proofs.plain.plain_line.Tie as tie
+
+-- of n numbers and a last one, those of l before i are a row from `from` to `at`
+record Reading-on (n : ℕ) (s : List ℕ) (from : ℕ) (l : List ℕ) (at i : ℕ) : Type 0 where
+  pub space : from + longest (suc n) ≤ length s
+  pub count : i ≤ n
+  pub near : at ≤ from + i * 12
+  pub room : length l ≡ suc n
+  pub row : Row s from at i (take i l)
+
+at-most-one : (t : Bool) (n : ℕ) → cond t (n + 1) n ≤ n + 1
+at-most-one true n = le-refl (n + 1)
+at-most-one false n = omega arith
+
+-- one number more
+module _ {n : ℕ} {s : List ℕ} {from : ℕ} {l : List ℕ} {at i : ℕ} (on : Reading-on n s from l at i)
+    {to x : ℕ} (number : NumberAt s at to x) where
+  added : take i l ++ (x ∷ []) ≡ take (i + 1) (set l i x)
+  added = sym (ap (λ (k : ℕ). take k (set l i x)) (add-one i) ∙ take-suc-set l i x (omega (arith, on .count, on .room)))
+
+  next : i < n → isBlank (getD s to 0) ≡ true → Reading-on n s from (set l i x) (to + 1) (i + 1)
+  next more blank =
+      record {
+        space = on .space;
+        count = omega arith;
+        near = omega (arith, on .near, number .near);
+        room = length-set l i x ∙ on .room;
+        row = subst (Row s from (to + 1) (i + 1)) added (row-more (on .row) number blank);
+      }
+
+  -- the last
+  module _ (end : ℕ) (e : end ≡ cond (eqb (getD s to 0) 13) (to + 1) to) where
+    end-inside : end < length s
+    unfolding longest
+    end-inside =
+        let most : end ≤ to + 1 = rw e (at-most-one (eqb (getD s to 0) 13) to) in
+        omega (arith, on .space, on .near, on .count, number .near)
+
+    done : n ≤ i → n ≤ 80 → getD s end 0 ≡ 10 → PlainLine (suc n) s from end (set l n x)
+    done all few feed =
+        let last : i ≡ n = omega (arith, on .count) in
+        let whole : take i l ++ (x ∷ []) ≡ set l n x =
+        added
+        ∙ take-all (i + 1) (set l i x) (omega (arith, on .room, length-set l i x))
+        ∙ ap (λ (k : ℕ). set l k x) last
+        in
+        subst (λ (k : ℕ). PlainLine (suc k) s from end (set l n x)) last
+        (subst (PlainLine (suc i) s from end) whole
+        (row-ends (on .row) number (omega (arith, on .near, number .near)) end end-inside feed e))
+
+abbrev Inv-loop : tie.InvT-loop
+Inv-loop s from fields₀ at₀ i₀ fields at i = Reading-on 25 s from fields at i
+
+abbrev μ-loop : tie.MeasureT-loop
+μ-loop s from fields₀ at₀ i₀ fields at i = 25 - i
+
+returns : tie.Need-returns Inv-loop μ-loop
+returns c = other-outcome _ (c .not-plain .ensures)
+
+loop-holds : tie.Need-loop-holds Inv-loop μ-loop
+unfolding width
+loop-holds c =
+    record {
+      space = c .before .has-room .ensures (not-false _ (c .if1 .left));
+      count = omega arith;
+      near = omega arith;
+      room = refl;
+      row = row-none _ _;
+    }
+
+number-at-requires : tie.Need-number-at-requires Inv-loop μ-loop
+unfolding longest
+number-at-requires c κs =
+    let on = c .before .loop .inv in
+    omega (arith, on .space, on .near)
+
+returns-2 : tie.Need-returns-2 Inv-loop μ-loop
+returns-2 c = other-outcome _ (c .not-plain2 .ensures)
+
+shared-slice-read-is-blank : tie.Need-shared-slice-read-is-blank Inv-loop μ-loop
+shared-slice-read-is-blank c = c .before .before .before .number-at .ensures (not-false _ (c .before .if2 .left)) .inside
+
+returns-3 : tie.Need-returns-3 Inv-loop μ-loop
+returns-3 c = other-outcome _ (c .not-plain3 .ensures)
+
+add-at : tie.Need-add-at Inv-loop μ-loop
+add-at c =
+    let at-number = c .before .before .before .before .before in
+    omega (arith, at-number .number-at .ensures (not-false _ (c .before .before .before .if2 .left)) .inside)
+
+loop-again : tie.Need-loop-again Inv-loop μ-loop
+loop-again c =
+    let at-number = c .before .before .before .before .before in
+    let number = at-number .number-at .ensures (not-false _ (c .before .before .before .if2 .left)) in
+    let in-loop = at-number .before in
+    let blank = sym (c .before .is-blank .ensures) ∙ not-false _ (c .if3 .left) in
+    next (in-loop .before .loop .inv) number (in-loop .loop-test .taken) blank
+
+number-at-requires-2 : tie.Need-number-at-requires-2 Inv-loop μ-loop
+unfolding longest
+number-at-requires-2 c κs =
+    let on = c .before .loop .inv in
+    omega (arith, on .space, on .near, on .count)
+
+returns-4 : tie.Need-returns-4 Inv-loop μ-loop
+returns-4 c = other-outcome _ (c .not-plain4 .ensures)
+
+past-return-requires : tie.Need-past-return-requires Inv-loop μ-loop
+past-return-requires c κs = c .before .before .number-at2 .ensures (not-false _ (c .if4 .left)) .inside
+
+shared-slice-read-if5 : tie.Need-shared-slice-read-if5 Inv-loop μ-loop
+shared-slice-read-if5 c =
+    let at-number = c .before .before .before .before in
+    let number = at-number .number-at2 .ensures (not-false _ (c .before .before .if4 .left)) in
+    end-inside (at-number .before .before .loop .inv) number _ (c .before .past-return .ensures)
+
+returns-5 : tie.Need-returns-5 Inv-loop μ-loop
+returns-5 c = other-outcome _ (c .not-plain5 .ensures)
+
+returns-6 : tie.Need-returns-6 Inv-loop μ-loop
+unfolding width
+returns-6 c found =
+    let at-end = c .before .before in
+    let at-number = at-end .before .before .before in
+    let number = at-number .number-at2 .ensures (not-false _ (at-end .before .if4 .left)) in
+    let past = at-number .before in
+    done (past .before .loop .inv) number _ (at-end .past-return .ensures) (past .loop-test .left) (lit≤ tt) (c .if5 .left)
+
+pub plain-line-spec : {M : Type 1} → statement M
+plain-line-spec =
+    tie.close
+    (tie.spec
+    Inv-loop
+    μ-loop
+    (λ c κs. tt)
+    (λ c κs. tt)
+    returns
+    loop-holds
+    (λ c. omega arith)
+    number-at-requires
+    (λ c κs. tt)
+    returns-2
+    shared-slice-read-is-blank
+    (λ c κs. tt)
+    (λ c κs. tt)
+    returns-3
+    (λ c. omega arith)
+    (λ c. omega arith)
+    add-at
+    (λ c. omega arith)
+    (λ c. omega arith)
+    loop-again
+    number-at-requires-2
+    (λ c κs. tt)
+    returns-4
+    past-return-requires
+    shared-slice-read-if5
+    (λ c κs. tt)
+    returns-5
+    (λ c. omega arith)
+    (λ c. omega arith)
+    (λ c. omega arith)
+    returns-6)

@@ -1,0 +1,53 @@
+-- `list_text::list_book` meets its contract. The count of a book within 65536 bytes leaves room for its lines. Assumes nothing.
+use mathlib.Core.List.{List}
+use mathlib.Core.Path.{_≡_, sym, ap, subst, _∙_}
+use Prim.Native.Nat.{ℕ, _≤_}
+use native.Mathlib.Omega.{arith}
+use lib.ListN.{length}
+use Rattle.book.specs.declared.accept.Acceptance.{Acceptance}
+use Rattle.book.specs.Answers.{acceptanceOf}
+use Rattle.book_laws.specs.Accept as Paper
+use Rattle.book_laws.specs.Accept.{acceptOf}
+use Rattle.book_laws.specs.AcceptLaws.{Counted, count-within}
+use Rattle.splice.specs.Splice.{splice}
+use Rattle.splice.specs.Laws.{splice-length}
+use Rattle.list_text.specs.Listing.{listingFor, listingOf}
+use borrow.Author.Needs.{needs}
+use Rattle.list_text.proofs.list_book.Statement.{statement}
+use Rattle.list_text.proofs.list_book.Tie as tie
+
+room : (b : List ℕ) (used : ℕ) {a : Acceptance} → acceptanceOf a ≡ acceptOf b used (a .named) → Counted b (a .count)
+room b used {a} is = subst (λ (n : ℕ). Counted b n) (sym (ap (λ (p : Paper.Acceptance). p .count) is)) (count-within b used (a .named))
+
+-- a listing that has room leaves the buffer as long
+as-long : (l vs : List ℕ) {m : List ℕ} {r : ℕ} → (r ≡ length vs) × (m ≡ splice l 0 vs) → r ≤ length l → length m ≡ length l
+as-long l vs put h = ap length (put .1) ∙ splice-length l 0 vs (omega (arith, put .0))
+
+listed :
+    (b : List ℕ) (used : ℕ) (l : List ℕ) {a : Acceptance} {m : List ℕ} {r : ℕ} → acceptanceOf a ≡ acceptOf b used (a .named) →
+    (r ≡ length (listingFor b used (acceptanceOf a))) × (m ≡ splice l 0 (listingFor b used (acceptanceOf a))) →
+    (r ≡ length (listingOf b used (a .named))) × (m ≡ splice l 0 (listingOf b used (a .named)))
+unfolding listingOf
+listed b used l {a} is put =
+    let same = ap (listingFor b used) is in (put .0 ∙ ap length same, put .1 ∙ ap (splice l 0) same)
+
+put-listing-requires : tie.Need-put-listing-requires
+put-listing-requires c κs =
+    let accepted = c .before .before in
+    let counted = room _ _ (accepted .accept .ensures .0) in
+    (omega (arith, counted .within), counted .most)
+
+returns : tie.Need-returns
+returns c =
+    let accepted = c .before .before .before in
+    let is = accepted .accept .ensures .0 in
+    let short : c .put-listing .result ≤ 65536 = omega (arith, c .put-listing .ensures .1, room _ _ is .within) in (
+      listed _ _ _ is (c .put-listing .ensures .0),
+      (
+        λ is-23. accepted .accept .ensures .1 (ap (λ (p : Paper.Acceptance). p .number) is ∙ is-23),
+        (short, omega (arith, as-long _ _ (c .put-listing .ensures .0) (omega (arith, short)))),
+      ),
+    )
+
+pub list-book-spec : {M : Type 1} → statement M
+list-book-spec = tie.close (tie.spec (λ c κs. search needs) put-listing-requires returns)

@@ -1,0 +1,59 @@
+-- `list_text::put_records` meets its contract. The invariant: the lines of the first i records stand from `at` on, in at most 63 bytes each.
+-- The measure is how many are left. Assumes nothing.
+use mathlib.Core.List.{List, _++_}
+use mathlib.Core.Path.{_≡_, refl, sym, ap}
+use Prim.Native.Nat.{ℕ, _+_, _*_, _-_, _≤_}
+use native.Mathlib.Numerals.{add-one}
+use native.Mathlib.Omega.{arith}
+use lib.ListN.{length}
+use Rattle.splice.specs.Put.{Put, put-as, put-nothing, put-then}
+use Rattle.list_text.specs.Listing.{recordLine, recordLines}
+use Rattle.list_text.proofs.put_records.Statement.{statement}
+use Rattle.list_text.proofs.put_records.Tie as tie
+
+one-more : (b : List ℕ) (used i : ℕ) → recordLines b used i ++ recordLine b used i ≡ recordLines b used (i + 1)
+unfolding recordLines
+one-more b used i = ap (recordLines b used) (sym (add-one i))
+
+abbrev Inv-loop : tie.InvT-loop
+Inv-loop out₀ at book used count end₀ i₀ out end i = (i ≤ count) × (end ≤ at + 63 * i) × (length out ≡ length out₀) × Put out₀ at (recordLines book used i) out end
+
+abbrev μ-loop : tie.MeasureT-loop
+μ-loop out₀ at book used count end₀ i₀ out end i = count - i
+
+loop-holds : tie.Need-loop-holds Inv-loop μ-loop
+unfolding recordLines
+loop-holds c = (omega arith, omega arith, refl, put-nothing _ _)
+
+put-record-requires : tie.Need-put-record-requires Inv-loop μ-loop
+put-record-requires c κs = (omega arith, omega arith)
+
+loop-again : tie.Need-loop-again Inv-loop μ-loop
+loop-again c =
+    let turn = c .before .before in
+    let at-loop = turn .before .before .before .loop in (
+      omega arith,
+      omega (arith, turn .put-record .ensures .1),
+      omega arith,
+      put-as _ _ (one-more _ _ (at-loop .i)) (put-then _ _ _ _ (omega arith) (at-loop .inv .3) (turn .put-record .ensures .0)),
+    )
+
+returns : tie.Need-returns Inv-loop μ-loop
+returns c =
+    let at-loop = c .before .loop in
+    let all : at-loop .i ≡ c .before .before .before .before .args .count = omega arith in
+    (put-as _ _ (ap (recordLines _ _) all) (at-loop .inv .3), omega (arith, all))
+
+pub put-records-spec : {M : Type 1} → statement M
+put-records-spec =
+    tie.close
+    (tie.spec
+    Inv-loop
+    μ-loop
+    loop-holds
+    put-record-requires
+    (λ c. omega arith)
+    (λ c. omega arith)
+    loop-again
+    (λ c. omega arith)
+    returns)

@@ -1,0 +1,116 @@
+// The listing of a book: what the program `list` prints. Each function that puts text writes into `out` from `at` on, and answers the place
+// after what it wrote. A bound on that place shows that the next one has room.
+ghost use mathlib.Core.List.{[], _∷_, _++_};
+ghost use mathlib.Core.Path.{_≡_};
+ghost use Prim.Native.Nat.{_+_, _*_, _≤_, _<_};
+ghost use lib.ListN.{length};
+ghost use Rattle.book.specs.Answers.{acceptanceOf};
+ghost use Rattle.book_laws.specs.Accept.{acceptOf, Differs};
+ghost use Rattle.list_text.specs.Listing.{recordLine, recordLines, listingFor, listingOf};
+ghost use Rattle.splice.specs.Splice.{splice};
+ghost use Rattle.decimals.specs.Decimal.{decimal, written};
+use book::accept::Acceptance;
+use book::accept::accept;
+use book::read::read;
+use decimals::put_byte;
+use decimals::put_decimal;
+use decimals::put_number;
+use text::bytes::put_bytes;
+
+// A word or two, a number and a line feed.
+fn put_line(out: &mut [u8], at: usize, words: &[u8], number: u64) -> usize
+    requires { ⌜ at + length (now words) + 21 ≤ length (now out) ⌝ }
+    ensures { λ r. ⌜ (r ≡ at + length (now (words .entry) ++ decimal number ++ (10 ∷ [])))
+        × (now (out .exit) ≡ splice (now (out .entry)) at (now (words .entry) ++ decimal number ++ (10 ∷ []))) ⌝ }
+    ensures { λ r. ⌜ r ≤ at + length (now (words .entry)) + 21 ⌝ }
+{
+    let digits = put_bytes(out, at, words);
+    let end = put_decimal(out, digits, number);
+    put_byte(out, end, b'\n')
+}
+
+// A record's number, answer and rating with a blank between them, and a line feed.
+fn put_numbers(out: &mut [u8], at: usize, number: u64, answer: u64, rating: u64) -> usize
+    requires { ⌜ at + 63 ≤ length (now out) ⌝ }
+    ensures { λ r. ⌜ (r ≡ at + length (written (number ∷ answer ∷ rating ∷ []) ++ (10 ∷ [])))
+        × (now (out .exit) ≡ splice (now (out .entry)) at (written (number ∷ answer ∷ rating ∷ []) ++ (10 ∷ []))) ⌝ }
+    ensures { λ r. ⌜ r ≤ at + 63 ⌝ }
+{
+    let first = put_decimal(out, at, number);
+    let second = put_number(out, first, answer);
+    let third = put_number(out, second, rating);
+    put_byte(out, third, b'\n')
+}
+
+fn long(x: u32) -> u64
+    ensures { λ r. ⌜ r ≡ x ⌝ }
+{
+    x as u64
+}
+
+// The line of record i, from 0.
+fn put_record(out: &mut [u8], at: usize, book: &[u8], used: usize, i: usize) -> usize
+    requires { ⌜ (at + 63 ≤ length (now out)) × (i < 100000) ⌝ }
+    ensures { λ r. ⌜ (r ≡ at + length (recordLine (now (book .entry)) used i))
+        × (now (out .exit) ≡ splice (now (out .entry)) at (recordLine (now (book .entry)) used i)) ⌝ }
+    ensures { λ r. ⌜ r ≤ at + 63 ⌝ }
+{
+    let found = read(book, used, i);
+    let fields = found.fields;
+    put_numbers(out, at, i as u64 + 1, long(fields[26]), long(fields[27]))
+}
+
+// The lines of the first `count` records.
+fn put_records(out: &mut [u8], at: usize, book: &[u8], used: usize, count: usize) -> usize
+    requires { ⌜ (at + 63 * count ≤ length (now out)) × (count ≤ 100000) ⌝ }
+    ensures { λ r. ⌜ (r ≡ at + length (recordLines (now (book .entry)) used count))
+        × (now (out .exit) ≡ splice (now (out .entry)) at (recordLines (now (book .entry)) used count)) ⌝ }
+    ensures { λ r. ⌜ r ≤ at + 63 * count ⌝ }
+{
+    let mut end = at;
+    let mut i = 0;
+    while i < count {
+        end = put_record(out, end, book, used, i);
+        i += 1;
+    }
+    end
+}
+
+// By what accept answered: at most 64 bytes for the first line, and 63 for each record.
+fn put_listing(out: &mut [u8], book: &[u8], used: usize, a: Acceptance) -> usize
+    requires { ⌜ (64 + 63 * a .count ≤ length (now out)) × (a .count ≤ 100000) ⌝ }
+    ensures { λ r. ⌜ (r ≡ length (listingFor (now (book .entry)) used (acceptanceOf a)))
+        × (now (out .exit) ≡ splice (now (out .entry)) 0 (listingFor (now (book .entry)) used (acceptanceOf a))) ⌝ }
+    ensures { λ r. ⌜ r ≤ 64 + 63 * a .count ⌝ }
+{
+    if a.number == 0 {
+        let count = a.count;
+        let at = put_line(out, 0, b"book ", count as u64);
+        return put_records(out, at, book, used, count);
+    }
+    if a.number == 23 {
+        return put_line(out, 0, b"refused 23 at ", a.named as u64);
+    }
+    put_line(out, 0, b"refused ", a.number as u64)
+}
+
+// How many bytes the listing has, and the record that accept named, for 23.
+pub struct Listed {
+    pub len: usize,
+    pub named: usize,
+}
+
+// Writes the listing of a book at the front of `out`, which has room for that of any book in 65536 bytes. A used length over 65536 is
+// refused by 20.
+pub fn list_book(book: &[u8; 65536], used: usize, out: &mut [u8; 65536]) -> Listed
+    ensures { λ r. ⌜ (r .len ≡ length (listingOf (now (book .entry)) used (r .named)))
+        × (now (out .exit) ≡ splice (now (out .entry)) 0 (listingOf (now (book .entry)) used (r .named))) ⌝ }
+    ensures { λ r. ⌜ (acceptOf (now (book .entry)) used (r .named) .number ≡ 23 → Differs (now (book .entry)) used (r .named)) ⌝ }
+    ensures { λ r. ⌜ (r .len ≤ 65536) × (65536 ≡ length (now (out .exit))) ⌝ }
+{
+    let a = accept(book, used);
+    Listed {
+        len: put_listing(out, book, used, a),
+        named: a.named,
+    }
+}

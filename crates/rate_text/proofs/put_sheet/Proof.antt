@@ -1,0 +1,68 @@
+-- `rate_text::put_sheet` meets its contract. The invariant: the first i numbers stand from `at` on, in at most 21 bytes each. The
+-- measure is how many are left.
+-- Assumes nothing.
+use mathlib.Core.List.{List, [], _∷_, _++_}
+use mathlib.Core.Path.{_≡_, refl, sym, ap, _∙_}
+use Prim.Native.Nat.{ℕ, _+_, _*_, _-_, _≤_, _<_}
+use native.Mathlib.Numerals.{add-one}
+use native.Mathlib.Omega.{arith}
+use lib.ListN.{length, getD, take}
+use lib.Seq.{take-suc, take-all}
+use Rattle.splice.specs.Put.{Put, put-as, put-nothing, put-then}
+use Rattle.decimals.specs.Decimal.{spaced}
+use Rattle.decimals.specs.DecimalLaws.{spaced-append}
+use Rattle.rate_text.proofs.put_sheet.Statement.{statement}
+use Rattle.rate_text.proofs.put_sheet.Tie as tie
+
+abbrev Inv-loop : tie.InvT-loop
+Inv-loop out₀ at xs end₀ i₀ out end i =
+    (i ≤ 13) × (end ≤ at + 21 * i) × (length out ≡ length out₀) × Put out₀ at (spaced (take i xs)) out end
+
+abbrev μ-loop : tie.MeasureT-loop
+μ-loop out₀ at xs end₀ i₀ out end i = 13 - i
+
+next : (xs : List ℕ) (i : ℕ) → i < length xs → spaced (take i xs) ++ spaced (getD xs i 0 ∷ []) ≡ spaced (take (i + 1) xs)
+next xs i h =
+    sym (spaced-append (take i xs) (getD xs i 0 ∷ []))
+    ∙ ap spaced (sym (take-suc xs i 0 h) ∙ ap (λ (n : ℕ). take n xs) (sym (add-one i)))
+
+loop-holds : tie.Need-loop-holds Inv-loop μ-loop
+unfolding spaced
+loop-holds c = (omega arith, omega arith, refl, put-nothing _ _)
+
+loop-again : tie.Need-loop-again Inv-loop μ-loop
+loop-again c =
+    let call = c .before .before in
+    let at-loop = call .before .before .before in
+    let xs = at-loop .before .before .args .t3 in
+    let i = at-loop .loop .i in
+    let put = at-loop .loop .inv .3 in (
+      omega arith,
+      omega arith,
+      omega arith,
+      put-as _ _ (next xs i (omega arith))
+          (put-then _ _ (spaced (take i xs)) (spaced (getD xs i 0 ∷ [])) (omega arith) put (call .put-number .ensures .0)),
+    )
+
+returns : tie.Need-returns Inv-loop μ-loop
+returns c =
+    let at-loop = c .before .loop in
+    let xs = c .before .before .before .args .t3 in
+    let all = ap spaced (take-all (at-loop .i) xs (omega arith)) in
+    (put-as _ _ all (at-loop .inv .3), omega arith)
+
+pub put-sheet-spec : {M : Type 1} → statement M
+put-sheet-spec =
+    tie.close
+    (tie.spec
+    Inv-loop
+    μ-loop
+    loop-holds
+    (λ c. omega arith)
+    (λ c. omega arith)
+    (λ c κs. omega arith)
+    (λ c. omega arith)
+    (λ c. omega arith)
+    loop-again
+    (λ c. omega arith)
+    returns)

@@ -1,0 +1,94 @@
+-- `sheet_text::fixed::put_fixed` meets its contract: the laws of `Points` put its three writings together.
+-- Assumes nothing.
+use mathlib.Core.List.{List}
+use mathlib.Core.Path.{_≡_, ap, _∙_}
+use Prim.Native.Nat.{ℕ, _+_, _%_, _/_, _^_, _≤_, _<_}
+use native.Mathlib.Nat.{one-le-pow, pow-le-pow-right, mod-lt, div-le-self, lt-of-le-of-lt}
+use native.Mathlib.Omega.{arith}
+use borrow.Author.Needs.{needs}
+use lib.Dec.{lit<}
+use lib.ListN.{length}
+use Rattle.decimals.specs.Decimal.{decimal}
+use Rattle.decimals.specs.DecimalLaws.{count-64}
+use Rattle.splice.specs.Splice.{splice}
+use Rattle.sheet_text.proofs.Points.{fixed-none, ends, written}
+use Rattle.sheet_text.proofs.fixed.put_fixed.Statement.{statement}
+use Rattle.sheet_text.proofs.fixed.put_fixed.Tie as tie
+
+-- a power of ten of at most 16 zeros
+positive : (d one : ℕ) → one ≡ 10 ^ d → 0 < one
+positive d one e = rw e (one-le-pow d 10 (lit< tt))
+
+small : (d one : ℕ) → one ≡ 10 ^ d → d ≤ 16 → one ≤ 10000000000000000
+small d one e h = rw e (pow-le-pow-right (lit< tt) {i = d} {j = 16} h)
+
+sum-small : (d one x : ℕ) → one ≡ 10 ^ d → d ≤ 16 → one + x % one ≤ 20000000000000000
+sum-small d one x e h = omega (arith, small d one e h, mod-lt x (positive d one e))
+
+-- the digits before the point
+count : (x one : ℕ) → x < 2 ^ 64 → length (decimal (x / one)) ≤ 20
+count x one h = count-64 (x / one) (lt-of-le-of-lt (div-le-self x one) h)
+
+returns : tie.Need-returns
+returns c =
+    let a = c .before .before .before .before .before .before .args in
+    let h = c .before .before .put-decimal .ensures in
+    let same = fixed-none (a .decimals) (a .x) (c .before .before .before .before .if1 .taken) in
+    (h .0 ∙ ap (λ (t : List ℕ). a .at + length t) same, h .1 ∙ ap (splice (a .out .now) (a .at)) same)
+
+div-put-decimal : tie.Need-div-put-decimal
+div-put-decimal c = positive _ _ (c .before .power-of-ten .ensures)
+
+rem-put-decimal : tie.Need-rem-put-decimal
+rem-put-decimal c = positive _ _ (c .before .before .before .before .before .power-of-ten .ensures)
+
+add-put-decimal : tie.Need-add-put-decimal
+add-put-decimal c =
+    let start = c .before .before .before .before .before .before .before .before in
+    omega (arith, sum-small _ _ (start .args .x) (c .before .before .before .before .before .power-of-ten .ensures) (start .pre .1))
+
+put-decimal-requires-3 : tie.Need-put-decimal-requires-3
+put-decimal-requires-3 c κs =
+    let start = c .before .before .before .before .before .before .before .before in
+    omega (arith, count (start .args .x) (c .before .before .before .before .before .power-of-ten .result) (start .fits .x .fits))
+
+put-byte-requires : tie.Need-put-byte-requires
+put-byte-requires c κs =
+    let two = c .before .before .before .before .before .before .before .before in
+    let start = two .before .before .before .before in
+    omega (arith, count (start .args .x) (two .before .power-of-ten .result) (start .fits .x .fits))
+
+returns-2 : tie.Need-returns-2
+returns-2 c =
+    let three = c .before .before .before .before .before .before in
+    let two = three .before .before .before .before in
+    let one = two .before .before .power-of-ten in
+    let start = two .before .before .before .before .before in
+    let a = start .args in
+    let digits = count (a .x) (one .result) (start .fits .x .fits) in
+    let room : a .at + length (decimal (a .x / one .result)) ≤ length (a .out .now) = omega arith in
+    let same : length (two .put-decimal2 .last .0) ≡ length (a .out .now) = omega arith in
+    let e = two .put-decimal2 .ensures in
+    let f = three .put-decimal3 .ensures in
+    let g = c .before .before .put-byte .ensures .1 in
+    let some = two .before .before .before .if1 .left in (
+      ends _ _ _ _ _ _ _ _ _ _ some (one .ensures) room (e .0) (e .1) same (f .0) (f .1) g,
+      written _ _ _ _ _ _ _ _ _ _ some (one .ensures) room (e .0) (e .1) same (f .0) (f .1) g,
+    )
+
+pub put-fixed-spec : {M : Type 1} → statement M
+put-fixed-spec =
+    tie.close
+    (tie.spec
+    (λ c κs. search needs)
+    (λ c. search needs)
+    returns
+    (λ c κs. search needs)
+    div-put-decimal
+    (λ c κs. search needs)
+    rem-put-decimal
+    add-put-decimal
+    put-decimal-requires-3
+    put-byte-requires
+    (λ c. search needs)
+    returns-2)

@@ -15,10 +15,11 @@ use book_bytes::record::fields_of;
 use book_bytes::record::put_fields;
 use book_bytes::trailer::describe_book;
 use book_bytes::trailer::put_trailer;
+use fields::Case;
 use rating::rate::rate;
 
 // Writes the record of a case at `at`, and the trailer of a book of `count` records after it.
-fn put_record(buffer: &mut [u8], at: usize, x: [u32; 26], count: u32)
+fn put_record(buffer: &mut [u8], at: usize, x: Case, count: u32)
     requires { ⌜ (at + 128 ≤ length (now buffer)) × (count ≤ 100000) ⌝ }
     ensures { λ _. ⌜ now (buffer .exit) ≡ splice (now (buffer .entry)) at (recordBytes x ++ trailerBytes count) ⌝ }
 {
@@ -40,7 +41,7 @@ fn own_refusal(count: usize, left: usize) -> u32
     0
 }
 
-pub fn append(buffer: &mut [u8], used: usize, x: [u32; 26]) -> Written
+pub fn append(buffer: &mut [u8], used: usize, x: Case) -> Written
     ensures { λ r. ⌜ writtenOf r (now (buffer .exit)) ≡ appendOf (now (buffer .entry)) used x ⌝ }
 {
     let d = describe_book(buffer, used);

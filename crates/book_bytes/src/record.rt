@@ -8,10 +8,11 @@ ghost use Rattle.book_laws.specs.Format.{wordsBytes};
 ghost use Rattle.splice.specs.Splice.{splice};
 use super::field::put_word;
 use super::field::word_at;
+use fields::Case;
 use rating::rate::rate;
 
 // The case of the record at `at`.
-pub fn case_at(buffer: &[u8], at: usize) -> [u32; 26]
+pub fn case_at(buffer: &[u8], at: usize) -> Case
     requires { ⌜ at + 104 ≤ length (now buffer) ⌝ }
     ensures { λ r. ⌜ r ≡ caseAt (now (buffer .entry)) at ⌝ }
 {
@@ -25,7 +26,7 @@ pub fn case_at(buffer: &[u8], at: usize) -> [u32; 26]
 }
 
 // The fields of a record.
-pub fn fields_of(x: [u32; 26], answer: u32, rating: u32) -> [u32; 28]
+pub fn fields_of(x: Case, answer: u32, rating: u32) -> [u32; 28]
     ensures { λ r. ⌜ (r ≡ x ++ (answer ∷ rating ∷ [])) × (length r ≡ 28) ⌝ }
 {
     let mut fields = [0u32; 28];

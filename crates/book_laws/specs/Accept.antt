@@ -4,7 +4,7 @@ use mathlib.Core.List.{List}
 use mathlib.Core.Path.{_≡_}
 use Prim.Native.Nat.{ℕ, zero, suc, _+_, _-_, _*_, _≤_, _<_}
 use lib.Dec.{eqb}
-use Rattle.rating.specs.Fields.{width}
+use Rattle.fields.specs.Fields.{width}
 use Rattle.rating.specs.Rate.{rateOf}
 use Rattle.book_laws.specs.Format.{wordAt, wordsAt, recordLength}
 use Rattle.book_laws.specs.Trailer.{Description, describe, onBook}

@@ -4,7 +4,7 @@ use mathlib.Core.List.{List, [], _∷_}
 use Prim.Native.Nat.{ℕ, zero, suc, _+_}
 use lib.Dec.{eqb}
 use lib.ListN.{length}
-use Rattle.rating.specs.Fields.{width}
+use Rattle.fields.specs.Fields.{width}
 use Rattle.book_laws.specs.Format.{recordLength, below}
 use Rattle.book_laws.specs.Start.{Written, startOf}
 use Rattle.book_laws.specs.Append.{appendOf}

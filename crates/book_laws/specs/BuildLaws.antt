@@ -13,7 +13,7 @@ use borrow.Author.Tests.{le-ltb, lt-leb, eqb-true, ltb-false, leb-false}
 use Rattle.bools.specs.Tests.{both, passed}
 use Rattle.splice.specs.Splice.{splice}
 use Rattle.splice.specs.Laws.{splice-over}
-use Rattle.rating.specs.Fields.{width}
+use Rattle.fields.specs.Fields.{width}
 use Rattle.book_laws.specs.Format.{recordLength, recordBytes, recordsBytes, trailerLength, trailerBytes, below}
 use Rattle.book_laws.specs.Trailer.{Description, mostRecords}
 use Rattle.book_laws.specs.TrailerLaws.{onBook-on}

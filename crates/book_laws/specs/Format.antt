@@ -5,7 +5,7 @@ use mathlib.Core.List.{List, [], _∷_, _++_}
 use Prim.Native.Nat.{ℕ, zero, suc, _+_, _*_, _/_, _%_}
 use lib.Dec.{eqb, ltb}
 use lib.ListN.{getD}
-use Rattle.rating.specs.Fields.{width}
+use Rattle.fields.specs.Fields.{width}
 use Rattle.rating.specs.Rate.{rateOf}
 
 -- A field is a big-endian word of 32 bits.

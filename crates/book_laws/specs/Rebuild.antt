@@ -10,7 +10,7 @@ use lib.ListN.{length, getD, take, drop}
 use lib.Seq.{drop-cons, drop-drop, take-add, drop-length}
 use borrow.Author.Tests.{eqb-true, eq-eqb, lt-ltb}
 use Rattle.bools.specs.Tests.{both}
-use Rattle.rating.specs.Fields.{width}
+use Rattle.fields.specs.Fields.{width}
 use Rattle.splice.specs.Splice.{splice}
 use Rattle.book_laws.specs.Format.{wordAt, wordsAt, wordsBytes, recordFields, recordLength, recordBytes, recordsBytes, trailerLength, mark, trailerBytes, stands, below}
 use Rattle.book_laws.specs.FormatLaws.{below-at, wordsAt-length, wordsBytes-read}

@@ -10,7 +10,7 @@ use lib.ListN.{length, getD, take, drop, length-append}
 use lib.Seq.{take-at, drop-at}
 use borrow.Author.Tests.{eqb-true, eq-eqb, lt-ltb}
 use Rattle.bools.specs.Tests.{both}
-use Rattle.rating.specs.Fields.{width}
+use Rattle.fields.specs.Fields.{width}
 use Rattle.rating.specs.Rate.{rateOf}
 use Rattle.rating.specs.Bounds.{rateOf-bounded}
 use Rattle.book_laws.specs.Format.{wordAt, wordsAt, wordsBytes, recordFields, recordLength, fieldsOf, recordBytes, recordsBytes, below}

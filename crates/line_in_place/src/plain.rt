@@ -5,7 +5,7 @@ ghost use Prim.Native.Nat.{_+_, _<_, _≤_};
 ghost use lib.Dec.{eqb};
 ghost use lib.ListN.{getD, length};
 ghost use Rattle.line_in_place.specs.Row.{PlainLine, longest};
-ghost use Rattle.text.specs.Line.{width};
+ghost use Rattle.fields.specs.Fields.{width};
 use crate::number::number_at;
 use text::line::WIDTH;
 use text::words::is_blank;

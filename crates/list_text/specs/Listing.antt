@@ -7,7 +7,7 @@ use lib.Dec.{eqb}
 use lib.ListN.{getD}
 use Rattle.book_laws.specs.Accept.{Acceptance, acceptOf}
 use Rattle.book_laws.specs.Read.{readOf}
-use Rattle.rating.specs.Fields.{width}
+use Rattle.fields.specs.Fields.{width}
 use Rattle.decimals.specs.Decimal.{decimal, written}
 
 -- the line of record i, from 0: its number from 1, its answer and its rating

@@ -23,7 +23,7 @@ use Rattle.formulas.specs.Laws.CloseScreening.{sheathReactanceLow-close, sheath
 use Rattle.formulas.specs.Laws.CloseArmour.{armour-close}
 use Rattle.formulas.specs.Laws.CloseDielectric.{loss-close, dielectric-close}
 use Rattle.formulas.specs.Laws.CloseUnitRise.{unitRise-close}
-use Rattle.rating.specs.Fields as Field
+use Rattle.fields.specs.Fields as Field
 use Rattle.rating.specs.Screening.{armoured, eddying}
 use Rattle.rating.specs.Sound.{Sound, SoundArmour}
 use Rattle.rating.specs.Values.{coresOf, rsOf, raOf, bOf, zsOf, zpOf, ysOf, ypOf, rOf, xOf, xLowOf, sOf, wOf, wdOf, ddOf, eOf}

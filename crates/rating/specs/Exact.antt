@@ -16,7 +16,7 @@ use Rattle.formulas.specs.Sheath.{circulatingLoss*, slLoss*, eddyLoss*}
 use Rattle.formulas.specs.Armour.{armourLoss*}
 use Rattle.formulas.specs.Dielectric.{dielectricLoss*, dielectricRise*, permittedRise}
 use Rattle.formulas.specs.Rating.{unitRise*, rise*}
-use Rattle.rating.specs.Fields as Field
+use Rattle.fields.specs.Fields as Field
 use Rattle.rating.specs.Screening.{armoured, eddying}
 use Rattle.rating.specs.Values.{coresOf, rcOf, rsOf, raOf, riseOf}
 

@@ -1,6 +1,5 @@
 -- Document 01's rating of a case: its fields, the refusals in their order, the values of the stages, and what `rate` answers.
 -- Assumes nothing.
-pub mod Fields
 pub mod Screening
 pub mod Values
 pub mod Rate

@@ -22,7 +22,7 @@ use Rattle.formulas.specs.Laws.TableRange.{coefficient-most}
 use Rattle.formulas.specs.Laws.LogRange.{logLow-most, logLow-least}
 use Rattle.formulas.specs.Laws.Ranges as Law
 use Rattle.formulas.specs.Laws.Ranges.{In}
-use Rattle.rating.specs.Fields as Field
+use Rattle.fields.specs.Fields as Field
 use Rattle.rating.specs.Screening.{armoured, eddying}
 use Rattle.rating.specs.Sound.{Sound, SoundArmour}
 use Rattle.rating.specs.Values.{

@@ -7,7 +7,7 @@ use native.Mathlib.Omega.{arith}
 use lib.Dec.{ltb, leb→le}
 use lib.IntN.{ℤ, pos, negsuc, negℤ, subℕ, _-ℤ_, natAbs}
 use lib.Signed.{_≤ℤ_}
-use Rattle.rating.specs.Fields as Field
+use Rattle.fields.specs.Fields as Field
 use Rattle.rating.specs.Sound.{Sound, InZ}
 
 -- z is a whole number from 500 to 29000

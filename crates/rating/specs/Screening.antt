@@ -6,7 +6,7 @@ use Prim.Native.Nat.{ℕ, _*_}
 use lib.Dec.{leb, eqb}
 use lib.IntN.{ℤ, pos, negℤ, _-ℤ_}
 use lib.Signed.{leZ}
-use Rattle.rating.specs.Fields.{
+use Rattle.fields.specs.Fields.{
   word,
   arrangement,
   conductor,

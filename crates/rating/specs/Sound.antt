@@ -11,7 +11,7 @@ use lib.Signed.{_≤ℤ_, leZ, leZ-yes}
 use borrow.Author.Tests.{leb-true}
 use Rattle.bools.specs.Tests.{both}
 use Rattle.formulas.specs.Laws.Ranges.{In}
-use Rattle.rating.specs.Fields as Field
+use Rattle.fields.specs.Fields as Field
 use Rattle.rating.specs.Screening.{within, withinZ, armoured, arrangementHeld, conductorHeld, conductorLimits, sheathLimits, armourLimits, thermalLimits, limitsHeld, strayHeld, geometryHeld, heatHeld, screen}
 
 -- z is at least low and at most high

@@ -15,7 +15,7 @@ use Rattle.formulas.specs.Sheath.{circulatingLoss, slLoss, eddyLoss}
 use Rattle.formulas.specs.Armour.{armourLoss}
 use Rattle.formulas.specs.Dielectric.{dielectricLoss, dielectricRise, currentRise}
 use Rattle.formulas.specs.Rating.{unitRise, rating}
-use Rattle.rating.specs.Fields as Field
+use Rattle.fields.specs.Fields as Field
 use Rattle.rating.specs.Screening.{armoured, eddying}
 
 -- n

@@ -8,6 +8,7 @@ ghost use Rattle.rating.specs.Rise.{RiseRange};
 ghost use Rattle.rating.specs.Screening.{screen};
 ghost use Rattle.rating.specs.Values.{coresOf, rcOf, rsOf, raOf, bOf, zsOf, zpOf, riseOf};
 use super::screening::armoured;
+use fields::Case;
 use stages::reactance::reactance;
 use stages::resistance::resistance;
 use stages::resistance::signed;
@@ -24,7 +25,7 @@ pub(crate) fn long(n: u32) -> u64
     n as u64
 }
 
-pub(crate) fn cores(x: [u32; 26]) -> u64
+pub(crate) fn cores(x: Case) -> u64
     ensures { λ r. ⌜ r ≡ coresOf x ⌝ }
 {
     if armoured(x) {
@@ -33,21 +34,21 @@ pub(crate) fn cores(x: [u32; 26]) -> u64
     1
 }
 
-pub(crate) fn conductor_resistance(x: [u32; 26]) -> u64
+pub(crate) fn conductor_resistance(x: Case) -> u64
     requires { ⌜ screen x ≡ 0 ⌝ }
     ensures { λ r. ⌜ r ≡ rcOf x ⌝ }
 {
     resistance(x[5], coefficient(conductor_metal(x[1])), x[3])
 }
 
-pub(crate) fn sheath_resistance(x: [u32; 26]) -> u64
+pub(crate) fn sheath_resistance(x: Case) -> u64
     requires { ⌜ screen x ≡ 0 ⌝ }
     ensures { λ r. ⌜ r ≡ rsOf x ⌝ }
 {
     resistance(x[15], coefficient(x[14]), x[16])
 }
 
-pub(crate) fn armour_resistance(x: [u32; 26]) -> u64
+pub(crate) fn armour_resistance(x: Case) -> u64
     requires { ⌜ screen x ≡ 0 ⌝ }
     ensures { λ r. ⌜ r ≡ raOf x ⌝ }
 {
@@ -57,21 +58,21 @@ pub(crate) fn armour_resistance(x: [u32; 26]) -> u64
     0
 }
 
-pub(crate) fn reactance_of(x: [u32; 26]) -> u64
+pub(crate) fn reactance_of(x: Case) -> u64
     requires { ⌜ screen x ≡ 0 ⌝ }
     ensures { λ r. ⌜ r ≡ bOf x ⌝ }
 {
     reactance(long(x[2]))
 }
 
-pub(crate) fn skin_ratio_of(x: [u32; 26], rc: u64) -> u64
+pub(crate) fn skin_ratio_of(x: Case, rc: u64) -> u64
     requires { ⌜ (screen x ≡ 0) × (rc ≡ rcOf x) ⌝ }
     ensures { λ r. ⌜ r ≡ zsOf x ⌝ }
 {
     skin_ratio(long(x[2]), long(ks(x[1])), rc)
 }
 
-pub(crate) fn proximity_ratio_of(x: [u32; 26], rc: u64) -> u64
+pub(crate) fn proximity_ratio_of(x: Case, rc: u64) -> u64
     requires { ⌜ (screen x ≡ 0) × (rc ≡ rcOf x) ⌝ }
     ensures { λ r. ⌜ r ≡ zpOf x ⌝ }
 {
@@ -86,7 +87,7 @@ fn difference(conductor: u32, ambient: u32) -> u64
     (signed(conductor) - signed(ambient)) as u64
 }
 
-pub(crate) fn rise(x: [u32; 26]) -> u64
+pub(crate) fn rise(x: Case) -> u64
     requires { ⌜ screen x ≡ 0 ⌝ }
     ensures { λ r. ⌜ r ≡ riseOf x ⌝ }
 {

@@ -4,6 +4,7 @@ ghost use Prim.Native.Nat.{_≤_};
 ghost use Rattle.rating.specs.Screening.{screen};
 ghost use Rattle.rating.specs.Values.{rcOf, zsOf, zpOf, ysOf, ypOf, rOf};
 use super::case::long;
+use fields::Case;
 use stages::proximity::ac_resistance;
 use stages::proximity::proximity_factor;
 use stages::proximity::spacing_ratio;
@@ -15,7 +16,7 @@ pub struct Heated {
     pub r: u64,
 }
 
-pub(crate) fn conductor(x: [u32; 26], rc: u64, zs: u64, zp: u64) -> Heated
+pub(crate) fn conductor(x: Case, rc: u64, zs: u64, zp: u64) -> Heated
     requires { ⌜ (screen x ≡ 0) × (rc ≡ rcOf x) × (zs ≡ zsOf x) × (zp ≡ zpOf x) × (zs ≤ 7840000000000) × (zp ≤ 7840000000000) ⌝ }
     ensures { λ h. ⌜ (h .ys ≡ ysOf x) × (h .yp ≡ ypOf x) × (h .r ≡ rOf x) ⌝ }
 {

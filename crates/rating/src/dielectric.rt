@@ -4,11 +4,12 @@ ghost use Rattle.rating.specs.Screening.{screen};
 ghost use Rattle.rating.specs.Values.{bOf, wdOf, ddOf};
 use super::case::cores;
 use super::case::long;
+use fields::Case;
 use stages::dielectric::dielectric_loss;
 use stages::dielectric::dielectric_rise;
 use stages::logarithm::log_low;
 
-pub(crate) fn dielectric_loss_of(x: [u32; 26], b: u64) -> u64
+pub(crate) fn dielectric_loss_of(x: Case, b: u64) -> u64
     requires { ⌜ (screen x ≡ 0) × (b ≡ bOf x) ⌝ }
     ensures { λ r. ⌜ r ≡ wdOf x ⌝ }
 {
@@ -21,7 +22,7 @@ pub(crate) fn dielectric_loss_of(x: [u32; 26], b: u64) -> u64
     )
 }
 
-pub(crate) fn dielectric_rise_of(x: [u32; 26], wd: u64) -> u64
+pub(crate) fn dielectric_rise_of(x: Case, wd: u64) -> u64
     requires { ⌜ (screen x ≡ 0) × (wd ≡ wdOf x) ⌝ }
     ensures { λ r. ⌜ r ≡ ddOf x ⌝ }
 {

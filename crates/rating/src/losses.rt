@@ -3,10 +3,11 @@ ghost use mathlib.Core.Path.{_≡_};
 ghost use mathlib.Core.Bool.{cond, true, false};
 ghost use Prim.Native.Nat.{_*_, _≤_};
 ghost use lib.Dec.{eqb};
-ghost use Rattle.rating.specs.Fields.{arrangement};
+ghost use Rattle.fields.specs.Fields.{arrangement};
 ghost use Rattle.rating.specs.Screening.{armoured, eddying, screen};
 ghost use Rattle.rating.specs.Values.{rsOf, raOf, bOf, xOf, xLowOf, sOf, wOf};
 use super::case::long;
+use fields::Case;
 use stages::armour::screened_loss;
 use stages::armour::unscreened_loss;
 use stages::reactance::reactance_low;
@@ -24,14 +25,14 @@ pub struct Losses {
     pub w: u64,
 }
 
-fn sheath_reactance_of(x: [u32; 26], b: u64) -> u64
+fn sheath_reactance_of(x: Case, b: u64) -> u64
     requires { ⌜ (screen x ≡ 0) × (b ≡ bOf x) × (eddying x ≡ false) ⌝ }
     ensures { λ r. ⌜ r ≡ xOf x ⌝ }
 {
     sheath_reactance(b, spacing_log_high(x[0], long(x[7]), long(x[13])))
 }
 
-fn sheath_reactance_low_of(x: [u32; 26]) -> u64
+fn sheath_reactance_low_of(x: Case) -> u64
     requires { ⌜ screen x ≡ 0 ⌝ }
     ensures { λ r. ⌜ r ≡ xLowOf x ⌝ }
 {
@@ -42,7 +43,7 @@ fn sheath_reactance_low_of(x: [u32; 26]) -> u64
 }
 
 // Arrangements 1 and 2: sheaths bonded at both ends.
-fn bonded(x: [u32; 26], b: u64, rs: u64) -> Losses
+fn bonded(x: Case, b: u64, rs: u64) -> Losses
     requires { ⌜ (screen x ≡ 0) × (b ≡ bOf x) × (rs ≡ rsOf x) × (armoured x ≡ false) × (eddying x ≡ false) ⌝ }
     ensures { λ l. ⌜ (l .x ≡ xOf x) × (l .s ≡ sOf x) × (l .w ≡ wOf x) ⌝ }
 {
@@ -55,7 +56,7 @@ fn bonded(x: [u32; 26], b: u64, rs: u64) -> Losses
 }
 
 // Arrangements 3 and 4: bonded at one point.
-fn single_point(x: [u32; 26], j: u64, b: u64, rs: u64) -> Losses
+fn single_point(x: Case, j: u64, b: u64, rs: u64) -> Losses
     requires { ⌜ (screen x ≡ 0) × (b ≡ bOf x) × (rs ≡ rsOf x) × (armoured x ≡ false) × (eddying x ≡ true) ⌝
         ∗ ⌜ (j ≡ cond (eqb (arrangement x) 3) 1 2) × (5 * b ≤ rs) ⌝ }
     ensures { λ l. ⌜ (l .x ≡ xOf x) × (l .s ≡ sOf x) × (l .w ≡ wOf x) ⌝ }
@@ -67,7 +68,7 @@ fn single_point(x: [u32; 26], j: u64, b: u64, rs: u64) -> Losses
     }
 }
 
-fn armour_loss(x: [u32; 26], b: u64, rs: u64, ra: u64) -> u64
+fn armour_loss(x: Case, b: u64, rs: u64, ra: u64) -> u64
     requires { ⌜ (screen x ≡ 0) × (b ≡ bOf x) × (rs ≡ rsOf x) × (ra ≡ raOf x) × (armoured x ≡ true) ⌝ }
     ensures { λ r. ⌜ r ≡ wOf x ⌝ }
 {
@@ -76,7 +77,7 @@ fn armour_loss(x: [u32; 26], b: u64, rs: u64, ra: u64) -> u64
 }
 
 // Arrangement 5: three cores of SL type in armour.
-fn three_core(x: [u32; 26], b: u64, rs: u64, ra: u64) -> Losses
+fn three_core(x: Case, b: u64, rs: u64, ra: u64) -> Losses
     requires { ⌜ (screen x ≡ 0) × (b ≡ bOf x) × (rs ≡ rsOf x) × (ra ≡ raOf x) ⌝ ∗ ⌜ (armoured x ≡ true) × (eddying x ≡ false) ⌝ }
     ensures { λ l. ⌜ (l .x ≡ xOf x) × (l .s ≡ sOf x) × (l .w ≡ wOf x) ⌝ }
 {
@@ -88,7 +89,7 @@ fn three_core(x: [u32; 26], b: u64, rs: u64, ra: u64) -> Losses
     }
 }
 
-pub(crate) fn losses_of(x: [u32; 26], b: u64, rs: u64, ra: u64) -> Losses
+pub(crate) fn losses_of(x: Case, b: u64, rs: u64, ra: u64) -> Losses
     requires { ⌜ (screen x ≡ 0) × (b ≡ bOf x) × (rs ≡ rsOf x) × (ra ≡ raOf x) ⌝ ∗ ⌜ (eddying x ≡ true → 5 * b ≤ rs) ⌝ }
     ensures { λ l. ⌜ (l .x ≡ xOf x) × (l .s ≡ sOf x) × (l .w ≡ wOf x) ⌝ }
 {

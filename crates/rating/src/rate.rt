@@ -20,6 +20,7 @@ use super::dielectric::dielectric_rise_of;
 use super::losses::losses_of;
 use super::screening::eddying;
 use super::screening::screen;
+use fields::Case;
 use stages::rating::rating;
 use stages::rating::unit_rise;
 
@@ -40,7 +41,7 @@ fn refuse(number: u32) -> Rated
     }
 }
 
-fn unit_rise_of(x: [u32; 26], r: u64, s: u64, w: u64) -> u64
+fn unit_rise_of(x: Case, r: u64, s: u64, w: u64) -> u64
     requires { ⌜ (screen x ≡ 0) × (r ≡ rOf x) × (s ≡ sOf x) × (w ≡ wOf x) ⌝ ∗ ⌜ (r ≤ 788000000000000) × (s ≤ 610500000000000) ⌝ }
     ensures { λ u. ⌜ u ≡ eOf x ⌝ }
 {
@@ -57,7 +58,7 @@ fn unit_rise_of(x: [u32; 26], r: u64, s: u64, w: u64) -> u64
 }
 
 // Stage 10, where refusal 10 was not given.
-fn current_of(x: [u32; 26], permitted: u64, dd: u64, e: u64) -> u64
+fn current_of(x: Case, permitted: u64, dd: u64, e: u64) -> u64
     requires { ⌜ (screen x ≡ 0) × (permitted ≡ riseOf x) × (dd ≡ ddOf x) × (e ≡ eOf x) ⌝
         ∗ ⌜ (10 * dd ≤ 90000000 * permitted) × (36500000 ≤ e) ⌝ }
     ensures { λ i. ⌜ i ≡ currentOf x ⌝ }
@@ -74,7 +75,7 @@ pub struct Passed {
     pub rs: u64,
 }
 
-fn load(x: [u32; 26], p: Passed) -> Rated
+fn load(x: Case, p: Passed) -> Rated
     requires { ⌜ (screen x ≡ 0) × Passing x p ⌝ }
     ensures { λ r. ⌜ answerOf r ≡ loaded x ⌝ }
 {
@@ -113,7 +114,7 @@ fn load(x: [u32; 26], p: Passed) -> Rated
     }
 }
 
-fn judge(x: [u32; 26]) -> Rated
+fn judge(x: Case) -> Rated
     requires { ⌜ screen x ≡ 0 ⌝ }
     ensures { λ r. ⌜ answerOf r ≡ judged x ⌝ }
 {
@@ -131,7 +132,7 @@ fn judge(x: [u32; 26]) -> Rated
     load(x, Passed { rc, zs, zp, b, rs })
 }
 
-pub fn rate(x: [u32; 26]) -> Rated
+pub fn rate(x: Case) -> Rated
     ensures { λ r. ⌜ answerOf r ≡ rateOf x ⌝ }
 {
     let first = screen(x);

@@ -6,6 +6,7 @@ ghost use mir.Syntax.{w32};
 ghost use mir.Val.{toZ};
 ghost use Rattle.rating.specs.Screening as Screening;
 use super::case::long;
+use fields::Case;
 use stages::resistance::signed;
 
 // A field from low to high, the ends included.
@@ -37,31 +38,31 @@ fn warmer(conductor: u32, ambient: u32) -> bool
     500 <= signed(conductor) - signed(ambient)
 }
 
-pub(crate) fn armoured(x: [u32; 26]) -> bool
+pub(crate) fn armoured(x: Case) -> bool
     ensures { λ r. ⌜ r ≡ Screening.armoured x ⌝ }
 {
     x[0] == 5
 }
 
-pub(crate) fn eddying(x: [u32; 26]) -> bool
+pub(crate) fn eddying(x: Case) -> bool
     ensures { λ r. ⌜ r ≡ Screening.eddying x ⌝ }
 {
     (x[0] == 3) | (x[0] == 4)
 }
 
-fn arrangement_held(x: [u32; 26]) -> bool
+fn arrangement_held(x: Case) -> bool
     ensures { λ r. ⌜ r ≡ Screening.arrangementHeld x ⌝ }
 {
     within(1, 5, x[0])
 }
 
-fn conductor_held(x: [u32; 26]) -> bool
+fn conductor_held(x: Case) -> bool
     ensures { λ r. ⌜ r ≡ Screening.conductorHeld x ⌝ }
 {
     within(1, 8, x[1])
 }
 
-fn conductor_limits(x: [u32; 26]) -> bool
+fn conductor_limits(x: Case) -> bool
     ensures { λ r. ⌜ r ≡ Screening.conductorLimits x ⌝ }
 {
     within(1000, 6500, x[2])
@@ -74,7 +75,7 @@ fn conductor_limits(x: [u32; 26]) -> bool
         & within(100, 30000, x[9])
 }
 
-fn sheath_limits(x: [u32; 26]) -> bool
+fn sheath_limits(x: Case) -> bool
     ensures { λ r. ⌜ r ≡ Screening.sheathLimits x ⌝ }
 {
     within(0, 300000, x[10])
@@ -86,7 +87,7 @@ fn sheath_limits(x: [u32; 26]) -> bool
         & within_signed(-4000, 25000, x[16])
 }
 
-fn armour_limits(x: [u32; 26]) -> bool
+fn armour_limits(x: Case) -> bool
     ensures { λ r. ⌜ r ≡ Screening.armourLimits x ⌝ }
 {
     within(1, 6, x[17])
@@ -96,7 +97,7 @@ fn armour_limits(x: [u32; 26]) -> bool
         & within(100, 50000, x[21])
 }
 
-fn thermal_limits(x: [u32; 26]) -> bool
+fn thermal_limits(x: Case) -> bool
     ensures { λ r. ⌜ r ≡ Screening.thermalLimits x ⌝ }
 {
     within(1000, 10000000, x[22])
@@ -105,19 +106,19 @@ fn thermal_limits(x: [u32; 26]) -> bool
         & within(10000, 20000000, x[25])
 }
 
-fn limits_held(x: [u32; 26]) -> bool
+fn limits_held(x: Case) -> bool
     ensures { λ r. ⌜ r ≡ Screening.limitsHeld x ⌝ }
 {
     conductor_limits(x) & sheath_limits(x) & thermal_limits(x) & (!armoured(x) | armour_limits(x))
 }
 
-fn stray_held(x: [u32; 26]) -> bool
+fn stray_held(x: Case) -> bool
     ensures { λ r. ⌜ r ≡ Screening.strayHeld x ⌝ }
 {
     armoured(x) | ((x[17] == 0) & (x[18] == 0) & (x[19] == 0) & (x[20] == 0) & (x[21] == 0))
 }
 
-fn geometry_held(x: [u32; 26]) -> bool
+fn geometry_held(x: Case) -> bool
     ensures { λ r. ⌜ r ≡ Screening.geometryHeld x ⌝ }
 {
     (x[6] <= x[8])
@@ -127,19 +128,19 @@ fn geometry_held(x: [u32; 26]) -> bool
         & (!armoured(x) | (2 * long(x[20]) <= long(x[21])))
 }
 
-fn heat_held(x: [u32; 26]) -> bool
+fn heat_held(x: Case) -> bool
     ensures { λ r. ⌜ r ≡ Screening.heatHeld x ⌝ }
 {
     warmer(x[3], x[4]) & not_hotter(x[16], x[3]) & (!armoured(x) | not_hotter(x[19], x[3]))
 }
 
-fn metal_held(x: [u32; 26]) -> bool
+fn metal_held(x: Case) -> bool
     ensures { λ r. ⌜ r ≡ Screening.metalHeld x ⌝ }
 {
     ((x[0] <= 2) | (x[14] == 1)) & (!armoured(x) | (x[17] == 6))
 }
 
-pub(crate) fn screen(x: [u32; 26]) -> u32
+pub(crate) fn screen(x: Case) -> u32
     ensures { λ r. ⌜ r ≡ Screening.screen x ⌝ }
 {
     if !arrangement_held(x) {

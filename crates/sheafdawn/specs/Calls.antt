@@ -5,7 +5,7 @@ use mathlib.Core.List.{List, [], _∷_}
 use Prim.Native.Nat.{ℕ}
 use lib.Dec.{eqb}
 use lib.ListN.{length}
-use Rattle.rating.specs.Fields.{width}
+use Rattle.fields.specs.Fields.{width}
 use Rattle.rating.specs.Rate.{rateOf}
 use Rattle.book_laws.specs.Format.{recordFields}
 use Rattle.book_laws.specs.Start.{Written, startOf}

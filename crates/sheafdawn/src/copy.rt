@@ -2,9 +2,10 @@
 ghost use mathlib.Core.Path.{_≡_};
 ghost use lib.ListN.{length};
 ghost use Rattle.splice.specs.Splice.{splice};
+use fields::Case;
 
 // The case in a slice of 26 words.
-pub(crate) fn case_of(case: &[u32]) -> [u32; 26]
+pub(crate) fn case_of(case: &[u32]) -> Case
     requires { ⌜ length (now case) ≡ 26 ⌝ }
     ensures { λ r. ⌜ r ≡ now (case .entry) ⌝ }
 {

@@ -2,12 +2,13 @@
 // `sheet_text::work_sheet`; here are the buffers, the loop over the lines and the writing.
 ghost use Prim.Native.Nat.{_≤_};
 ghost use lib.ListN.{length};
+use fields::Case;
 use libc::STDOUT_FILENO;
 use output::send;
 use text::line::Read;
 
 // A heading with the case's line number, and its sheet.
-fn show_case(out: &mut [u8], number: u64, x: [u32; 26]) {
+fn show_case(out: &mut [u8], number: u64, x: Case) {
     io::write_all(STDOUT_FILENO, b"CASE on line ");
     io::print_decimal(STDOUT_FILENO, number);
     io::write_all(STDOUT_FILENO, b"\n");

@@ -1,7 +1,7 @@
 // A case and its rating as a work sheet for a person: every field and every sheet number with its symbol, value, unit and
 // meaning, then the rating; or the refusal and its rule. ASCII only, so that any terminal shows it.
 mod codes;
-mod fields;
+mod field_rows;
 mod fixed;
 mod line;
 mod numbers;
@@ -11,6 +11,7 @@ mod sheet;
 
 ghost use Prim.Native.Nat.{_≤_};
 ghost use lib.ListN.{length};
+use fields::Case;
 use rating::rate::Rated;
 use sheet::put_sheet;
 
@@ -18,7 +19,7 @@ use sheet::put_sheet;
 pub const ROOM: usize = 8192;
 
 // Writes the work sheet at the front of a buffer and answers its length; in a buffer that is too small it writes nothing.
-pub fn work_sheet(out: &mut [u8], x: [u32; 26], r: Rated) -> usize
+pub fn work_sheet(out: &mut [u8], x: Case, r: Rated) -> usize
     ensures { λ n. ⌜ n ≤ length (now (out .entry)) ⌝ }
 {
     if out.len() < ROOM {

@@ -1,12 +1,13 @@
 // The whole work sheet, with a blank line at its end.
 ghost use Prim.Native.Nat.{_≤_};
 ghost use lib.ListN.{length};
-use crate::fields::put_fields;
+use crate::field_rows::put_fields;
 use crate::fixed::plain;
 use crate::line::put_line;
 use crate::numbers::put_numbers;
 use crate::refusals::put_refusal;
 use crate::rows::put_text;
+use fields::Case;
 use rating::rate::Rated;
 
 // The sheet and the rating of a case that is not refused.
@@ -41,7 +42,7 @@ fn put_verdict(out: &mut [u8], at: usize, r: Rated, armour: bool) -> usize
 }
 
 // The armour is shown where there is one, and in a refused case, which shows all that was given.
-pub fn put_sheet(out: &mut [u8], at: usize, x: [u32; 26], r: Rated) -> usize
+pub fn put_sheet(out: &mut [u8], at: usize, x: Case, r: Rated) -> usize
     requires { ⌜ at ≤ length (now out) ⌝ }
     ensures { λ n. ⌜ n ≤ length (now (out .entry)) ⌝ }
 {

@@ -5,7 +5,8 @@ use Prim.Native.Nat.{ℕ}
 use lib.Dec.{eqb}
 use lib.ListN.{replicate}
 use Rattle.text.specs.declared.line.Read.{Read}
-use Rattle.text.specs.Line.{Said, passedOver, aCase, unreadable, width}
+use Rattle.text.specs.Line.{Said, passedOver, aCase, unreadable}
+use Rattle.fields.specs.Fields.{width}
 
 unfoldable pub noCase : ℕ → Read
 noCase kind = record { kind = kind; fields = replicate width 0 }

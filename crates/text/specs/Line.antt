@@ -1,9 +1,10 @@
--- What a line says. The laws are over the count of a case's numbers, which is named once, as `width`. Assumes nothing.
+-- What a line says. The laws are over the count of a case's numbers. Assumes nothing.
 use mathlib.Core.Bool.{cond, _||_}
 use mathlib.Core.List.{List, [], _∷_}
 use Prim.Native.Nat.{ℕ, zero, suc, _-_}
 use lib.Dec.{eqb, ltb}
 use lib.ListN.{length, getD, take}
+use Rattle.fields.specs.Fields.{width}
 use Rattle.text.specs.declared.number.Reading.{Reading}
 use Rattle.text.specs.declared.number.Reading.the-variants.{Number, Nothing}
 use Rattle.text.specs.Number.{readNumber}
@@ -40,10 +41,6 @@ textLength l = cond (eqb (getD l (length l - 1) 0) 13) (length l - 1) (length l)
 -- a line of n numbers, of at most 1023 bytes
 unfoldable pub readLineOf : ℕ → List ℕ → Said
 readLineOf n l = cond (ltb 1023 (length l)) unreadable (says n (take (textLength l) l))
-
--- how many numbers a case has
-unfoldable pub width : ℕ
-width = 26
 
 unfoldable pub readLine : List ℕ → Said
 readLine l = readLineOf width l

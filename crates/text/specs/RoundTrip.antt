@@ -10,7 +10,8 @@ use lib.ListN.{length, getD, length-append}
 use Rattle.decimals.specs.Decimal.{decimal, spaced, written}
 use Rattle.decimals.specs.DecimalLaws.{count-positive, count-below}
 use Rattle.text.specs.declared.number.Reading.{Reading}
-use Rattle.text.specs.Line.{aCase, before, field, fields, readLineOf, readLine, width}
+use Rattle.text.specs.Line.{aCase, before, field, fields, readLineOf, readLine}
+use Rattle.fields.specs.Fields.{width}
 use Rattle.text.specs.Number.{isDigit, every}
 use Rattle.text.specs.NumberLaws.{every-append, every-weaker, decimal-digits, read-decimal}
 use Rattle.text.specs.WordLaws.{one-field, blank-first, isNumeral, isPlain, digit-ink, digit-plain, plain-case}
@@ -80,6 +81,6 @@ round-trip (x ∷ xs) m k h = read-back x xs h k
 
 -- a case
 pub round-trip-case : (xs : List ℕ) → length xs ≡ width → Below32 xs → readLine (written xs) ≡ aCase xs
-unfolding readLine width
+unfolding readLine
 round-trip-case xs e h =
     subst (λ (n : ℕ). readLineOf n (written xs) ≡ aCase xs) e (round-trip xs (omega arith) (omega arith) h)

@@ -15,7 +15,7 @@ use lib.Seq.{take-all, take-suc-set}
 use Rattle.bools.specs.Tests.{other-outcome}
 use Rattle.line_in_place.specs.NumberAt.{NumberAt}
 use Rattle.line_in_place.specs.Row.{PlainLine, longest, Row, row-none, row-more, row-ends}
-use Rattle.text.specs.Line.{width}
+use Rattle.fields.specs.Fields.{width}
 use Rattle.text.specs.Words.{isBlank}
 use Rattle.line_in_place.proofs.plain.plain_line.Statement.{statement}
 use Rattle.line_in_place.proofs.plain.plain_line.Tie as tie
@@ -78,7 +78,6 @@ returns : tie.Need-returns Inv-loop μ-loop
 returns c = other-outcome _ (c .not-plain .ensures)
 
 loop-holds : tie.Need-loop-holds Inv-loop μ-loop
-unfolding width
 loop-holds c =
     record {
       space = c .before .has-room .ensures (not-false _ (c .if1 .left));
@@ -138,7 +137,6 @@ returns-5 : tie.Need-returns-5 Inv-loop μ-loop
 returns-5 c = other-outcome _ (c .not-plain5 .ensures)
 
 returns-6 : tie.Need-returns-6 Inv-loop μ-loop
-unfolding width
 returns-6 c found =
     let at-end = c .before .before in
     let at-number = at-end .before .before .before in

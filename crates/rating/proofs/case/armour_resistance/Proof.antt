@@ -7,7 +7,7 @@ use Rattle.formulas.specs.Resistance.{resistance}
 use Rattle.formulas.specs.Laws.TableRange.{coefficient-most}
 use Rattle.rating.specs.Screening.{armoured}
 use Rattle.rating.specs.Sound.{SoundArmour, sound}
-use Rattle.rating.specs.Fields.{word, temperature}
+use Rattle.fields.specs.Fields.{word, temperature}
 use Rattle.rating.specs.Values.{raOf}
 use lib.ListN.{getD}
 use Rattle.rating.proofs.case.armour_resistance.Statement.{statement}

@@ -7,7 +7,7 @@ use Rattle.formulas.specs.Resistance.{resistance}
 use Rattle.formulas.specs.Laws.TableRange.{coefficient-most, conductorMetal-range}
 use Rattle.rating.specs.Sound.{sound}
 use Rattle.rating.specs.Ranges.{above-cold}
-use Rattle.rating.specs.Fields.{word, temperature}
+use Rattle.fields.specs.Fields.{word, temperature}
 use Rattle.rating.specs.Values.{rcOf}
 use lib.ListN.{getD}
 use Rattle.rating.proofs.case.conductor_resistance.Statement.{statement}

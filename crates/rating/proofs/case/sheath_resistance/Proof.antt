@@ -5,7 +5,7 @@ use native.Mathlib.Omega.{arith}
 use Rattle.formulas.specs.Resistance.{resistance}
 use Rattle.formulas.specs.Laws.TableRange.{coefficient-most}
 use Rattle.rating.specs.Sound.{Sound, sound}
-use Rattle.rating.specs.Fields.{word, temperature}
+use Rattle.fields.specs.Fields.{word, temperature}
 use Rattle.rating.specs.Values.{rsOf}
 use lib.ListN.{getD}
 use Rattle.rating.proofs.case.sheath_resistance.Statement.{statement}

@@ -5,7 +5,7 @@ use native.Mathlib.Omega.{arith}
 use Rattle.formulas.specs.Skin.{skinRatioSquared, factor, skinFactor}
 use Rattle.formulas.specs.Proximity.{spacingRatio, proximityFactor, acResistance}
 use Rattle.formulas.specs.Tables.{kp}
-use Rattle.rating.specs.Fields as Field
+use Rattle.fields.specs.Fields as Field
 use Rattle.rating.specs.Sound.{Sound, sound}
 use Rattle.rating.specs.Ranges.{rc-range, u-most, ys-most, g-most, yp-most}
 use Rattle.rating.specs.Values.{rcOf, zsOf, zpOf, ysOf, ypOf, rOf}

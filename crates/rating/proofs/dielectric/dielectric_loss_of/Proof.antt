@@ -4,7 +4,7 @@ use mathlib.Core.Path.{_≡_, _∙_}
 use native.Mathlib.Omega.{arith}
 use Rattle.formulas.specs.Logarithm.{logLow}
 use Rattle.formulas.specs.Dielectric.{dielectricLoss}
-use Rattle.rating.specs.Fields as Field
+use Rattle.fields.specs.Fields as Field
 use Rattle.rating.specs.Sound.{Sound, sound}
 use Rattle.rating.specs.Ranges.{b-range, insulationLog-range}
 use Rattle.rating.specs.Values.{wdOf}

@@ -4,7 +4,7 @@ use mathlib.Core.Path.{_≡_, _∙_}
 use native.Mathlib.Omega.{arith}
 use Rattle.formulas.specs.Armour.{unscreenedLoss, screenedLoss, armourLoss}
 use Rattle.formulas.specs.Laws.Ranges.{unscreenedLoss-most}
-use Rattle.rating.specs.Fields as Field
+use Rattle.fields.specs.Fields as Field
 use Rattle.rating.specs.Sound.{Sound, SoundArmour, sound}
 use Rattle.rating.specs.Ranges.{rs-range, ra-most, b-range, xLow-most}
 use Rattle.rating.specs.Values.{bOf, raOf, wOf}

@@ -5,7 +5,7 @@ use native.Mathlib.Omega.{arith}
 use Rattle.formulas.specs.Reactance.{reactanceLow}
 use Rattle.formulas.specs.Spacing.{spacingLogLow, sheathReactanceLow}
 use Rattle.formulas.specs.Laws.Ranges.{reactanceLow-most}
-use Rattle.rating.specs.Fields as Field
+use Rattle.fields.specs.Fields as Field
 use Rattle.rating.specs.Sound.{Sound, sound}
 use Rattle.rating.specs.Ranges.{spacingLogLow-most}
 use Rattle.rating.specs.Values.{xLowOf}

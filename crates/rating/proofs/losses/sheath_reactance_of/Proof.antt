@@ -3,7 +3,7 @@ use borrow.Author.Needs.{needs}
 use mathlib.Core.Path.{_≡_, _∙_}
 use native.Mathlib.Omega.{arith}
 use Rattle.formulas.specs.Spacing.{spacingLogHigh, sheathReactance}
-use Rattle.rating.specs.Fields as Field
+use Rattle.fields.specs.Fields as Field
 use Rattle.rating.specs.Sound.{Sound, sound}
 use Rattle.rating.specs.Ranges.{b-range, spacingLogHigh-most}
 use Rattle.rating.specs.Values.{xOf}

@@ -5,7 +5,7 @@ use native.Mathlib.Omega.{arith}
 use lib.Dec.{eqb, lit≤}
 use mathlib.Core.Bool.{Bool, true, false, cond}
 use Rattle.formulas.specs.Sheath.{eddyLoss}
-use Rattle.rating.specs.Fields as Field
+use Rattle.fields.specs.Fields as Field
 use Rattle.rating.specs.Sound.{Sound, sound}
 use Rattle.rating.specs.Ranges.{rs-range}
 use Rattle.rating.specs.Values.{xOf, sOf, wOf}

@@ -2,12 +2,12 @@
 -- Assumes nothing.
 use mathlib.Core.Path.{refl}
 use Rattle.text.specs.Answer.{noCase}
-use Rattle.text.specs.Line.{width}
+use Rattle.fields.specs.Fields.{width}
 use Rattle.text.proofs.line.no_case.Statement.{statement}
 use Rattle.text.proofs.line.no_case.Tie as tie
 
 returns : tie.Need-returns
-unfolding noCase width
+unfolding noCase
 returns c = refl
 
 pub no-case-spec : {M : Type 1} → statement M

@@ -14,7 +14,8 @@ use Rattle.text.specs.declared.number.Reading.the-variants.{Number, Noth
 use Rattle.text.specs.After.{after, after-one, after-unreadable, after-none}
 use Rattle.text.specs.Answer.{answer}
 use Rattle.text.specs.Gather.{piece}
-use Rattle.text.specs.Line.{aCase, unreadable, field, fields, width}
+use Rattle.text.specs.Line.{aCase, unreadable, field, fields}
+use Rattle.fields.specs.Fields.{width}
 use Rattle.text.specs.Number.{readNumber}
 use Rattle.text.specs.Runs.{run-within}
 use Rattle.text.specs.Words.{run, isBlank, isInk}
@@ -85,18 +86,17 @@ module _ {n : ℕ} {s l : List ℕ} {at i : ℕ} (on : Reading-on n s l at i) (a
   too-long h = sym (last ∙ ap (after (take i l)) (goes-on s at from blanks h) ∙ after-unreadable (take i l))
 
 more : (c : tie.In-loop Inv-loop μ-loop) → c .before .loop .i < width
-unfolding width
 more c = omega arith
 
 loop-holds : tie.Need-loop-holds Inv-loop μ-loop
-unfolding width after
+unfolding after
 loop-holds c = record { count = omega arith; within = omega arith; room = refl; same = refl }
 
 read-word-requires : tie.Need-read-word-requires Inv-loop μ-loop
 read-word-requires c κs = rw (c .skip-blanks .ensures) (run-within isBlank _ _ (c .before .before .loop .inv .within))
 
 returns : tie.Need-returns Inv-loop μ-loop
-unfolding width answer piece
+unfolding answer piece
 returns c =
     let word = c .before .before .before in
     let at-turn = word .before .before in
@@ -114,11 +114,10 @@ returns c =
     (c .before .enum-told .given .1))
 
 loop-less : tie.Need-loop-less Inv-loop μ-loop
-unfolding width
 loop-less c = omega arith
 
 loop-again : tie.Need-loop-again Inv-loop μ-loop
-unfolding width piece
+unfolding piece
 loop-again c =
     let word = c .before .before .before in
     let at-turn = word .before .before in
@@ -135,7 +134,7 @@ loop-again c =
     (c .before .said .given .1)
 
 returns-2 : tie.Need-returns-2 Inv-loop μ-loop
-unfolding width answer
+unfolding answer
 returns-2 c =
     let at-end = c .before .before .before in
     c .no-case2 .ensures
@@ -143,7 +142,7 @@ returns-2 c =
     (too-long (at-end .before .loop .inv) (at-end .loop-test .left) _ (c .before .before .skip-blanks2 .ensures) (c .before .if1 .taken))
 
 returns-3 : tie.Need-returns-3 Inv-loop μ-loop
-unfolding width answer
+unfolding answer
 returns-3 c =
     let at-end = c .before .before in
     ap answer (done (at-end .before .loop .inv) (at-end .loop-test .left) _ (c .before .skip-blanks2 .ensures) (c .if1 .left))

@@ -8,7 +8,8 @@ use borrow.Author.Needs.{needs}
 use borrow.Author.Tests.{eq-eqb, ne-eqb}
 use lib.ListN.{length, getD, drop}
 use Rattle.text.specs.Answer.{answer}
-use Rattle.text.specs.Line.{passedOver, fields, says, width}
+use Rattle.text.specs.Line.{passedOver, fields, says}
+use Rattle.fields.specs.Fields.{width}
 use Rattle.text.specs.Runs.{left, nothing-left}
 use Rattle.text.specs.Words.{run, isBlank}
 use Rattle.text.proofs.Fields.{past-blanks}

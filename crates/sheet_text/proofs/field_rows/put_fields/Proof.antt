@@ -1,11 +1,11 @@
--- `sheet_text::fields::put_fields` meets its contract. The invariant: the place is within the slice. The measure is what is left of the twenty-six.
+-- `sheet_text::field_rows::put_fields` meets its contract. The invariant: the place is within the slice. The measure is what is left of the twenty-six.
 -- Assumes nothing.
 use mathlib.Core.Path.{_≡_, refl}
 use Prim.Native.Nat.{_-_, _≤_}
 use native.Mathlib.Omega.{arith}
 use lib.ListN.{length}
-use Rattle.sheet_text.proofs.fields.put_fields.Statement.{statement}
-use Rattle.sheet_text.proofs.fields.put_fields.Tie as tie
+use Rattle.sheet_text.proofs.field_rows.put_fields.Statement.{statement}
+use Rattle.sheet_text.proofs.field_rows.put_fields.Tie as tie
 
 abbrev Inv-loop : tie.InvT-loop
 Inv-loop out₀ at armour x at₀ i₀ out at' i = (length out ≡ length out₀) × (at' ≤ length out₀)

@@ -7,6 +7,7 @@ use crate::fixed::complement;
 use crate::fixed::plain;
 use crate::line::put_line;
 use crate::rows::put_text;
+use fields::Case;
 
 // A row for each field: the symbol in 13 bytes, then the unit, the meaning and the limits.
 const LABELS: [u8; 1312] = *b"  arrangement  [1 to 5]
@@ -71,7 +72,7 @@ fn put_field(out: &mut [u8], at: usize, i: usize, x: u32, armour: bool) -> usize
     put_text(out, at, b"\n")
 }
 
-pub fn put_fields(out: &mut [u8], at: usize, x: [u32; 26], armour: bool) -> usize
+pub fn put_fields(out: &mut [u8], at: usize, x: Case, armour: bool) -> usize
     requires { ⌜ at ≤ length (now out) ⌝ }
     ensures { λ r. ⌜ r ≤ length (now (out .entry)) ⌝ }
 {

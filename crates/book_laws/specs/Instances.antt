@@ -8,7 +8,7 @@ use lib.Dec.{lit<, lit≤}
 use lib.ListN.{replicate, take}
 use Rattle.exact.specs.Fraction.{whole, _≤F_, _<F_}
 use Rattle.rating.specs.Exact.{exactRise, permittedOf}
-use Rattle.rating.specs.Instances.{cable, chosen, answer}
+use Rattle.rating.specs.Laws.Instances.{cable, chosen, answer}
 use Rattle.book_laws.specs.Format.{wordAt, wordBytes, wordsAt, wordsBytes, fieldsOf, trailerBytes, stands, below}
 use Rattle.book_laws.specs.Trailer.{wrongTrailer, describeAt, describe}
 use Rattle.book_laws.specs.TrailerLaws.{onBook-on}

@@ -8,7 +8,8 @@ use borrow.Author.Tests.{eqb-true, lt-leb}
 use Rattle.bools.specs.Tests.{both}
 use Rattle.exact.specs.Fraction.{whole, _≤F_, _<F_}
 use Rattle.rating.specs.Rate.{rateOf}
-use Rattle.rating.specs.Exact.{Chosen, exactRise, permittedOf}
+use Rattle.rating.specs.Chosen.{Chosen}
+use Rattle.rating.specs.Exact.{exactRise, permittedOf}
 use Rattle.rating.specs.Margin as Case
 use Rattle.book_laws.specs.Format.{recordLength}
 use Rattle.book_laws.specs.Trailer.{describe}

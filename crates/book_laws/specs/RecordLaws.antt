@@ -12,7 +12,7 @@ use borrow.Author.Tests.{eqb-true, eq-eqb, lt-ltb}
 use Rattle.bools.specs.Tests.{both}
 use Rattle.fields.specs.Fields.{width}
 use Rattle.rating.specs.Rate.{rateOf}
-use Rattle.rating.specs.Bounds.{rateOf-bounded}
+use Rattle.rating.specs.Laws.Bounds.{rateOf-bounded}
 use Rattle.book_laws.specs.Format.{wordAt, wordsAt, wordsBytes, recordFields, recordLength, fieldsOf, recordBytes, recordsBytes, below}
 use Rattle.book_laws.specs.FormatLaws.{wordsBytes-length, wordsAt-length, wordsAt-add, wordsAt-skip, wordsAt-written}
 use Rattle.book_laws.specs.Accept.{caseAt, answerAt, ratingAt, agrees}

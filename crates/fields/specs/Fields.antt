@@ -1,4 +1,4 @@
--- Document 01, 'Fields of a case': a case is a list of 26 words of 32 bits. Each field has its name here, once. Assumes nothing.
+-- docs/RATING.md, 'The fields of a case': a case is a list of 26 words of 32 bits. Each field has its name here, once. Assumes nothing.
 use mathlib.Core.List.{List}
 use Prim.Native.Nat.{ℕ}
 use lib.IntN.{ℤ}

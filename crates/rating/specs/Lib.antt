@@ -1,14 +1,15 @@
--- Document 01's rating of a case: its fields, the refusals in their order, the values of the stages, and what `rate` answers.
--- Assumes nothing.
-pub mod Screening
+-- The rating of a case (docs/RATING.md): the values of the stages, what each arrangement adds, the refusals in their order, what `rate`
+-- answers, and the exact rise. Laws has what is proved of them. Assumes nothing.
+pub mod Within
 pub mod Values
+pub mod Chosen
+pub mod Arrangement
+pub mod BothEnds
+pub mod OnePoint
+pub mod SlType
+pub mod Arrangements
+pub mod FieldRefusals
+pub mod Stage10
 pub mod Rate
-pub mod Sound
-pub mod Ranges
-pub mod Rise
-pub mod Passing
-pub mod Bounds
 pub mod Exact
-pub mod Close
-pub mod Margin
-pub mod Instances
+pub mod Laws

@@ -8,26 +8,10 @@ use lib.Dec.{eqb}
 use lib.ListN.{replicate}
 use Rattle.rating.specs.declared.rate.Rated.{Rated}
 use Rattle.formulas.specs.Refusals.{skinRefused, eddyRefused, dielectricRefused, currentRefused}
-use Rattle.rating.specs.Screening.{screen, eddying}
-use Rattle.rating.specs.Values.{
-  rcOf,
-  rsOf,
-  raOf,
-  bOf,
-  zsOf,
-  zpOf,
-  ysOf,
-  ypOf,
-  rOf,
-  xOf,
-  sOf,
-  wOf,
-  wdOf,
-  ddOf,
-  riseOf,
-  eOf,
-  currentOf,
-}
+use Rattle.rating.specs.Values.{R', Rs, B, zs, zp, ys, yp, Wd, riseOf}
+use Rattle.rating.specs.Arrangements.{own}
+use Rattle.rating.specs.FieldRefusals.{fieldRefusal}
+use Rattle.rating.specs.Stage10.{numbersOf, E, currentOf}
 
 -- an answer: 0 for a rated case or else the refusal's number, the rating in mA, and the sheet
 pub record Answer : Type 0 where
@@ -45,7 +29,9 @@ refused n = record { number = n; rating = 0; sheet = replicate 13 0 }
 -- R', Rs, RA, B, ys, yp, R, X, S, W, Wd, dd, E
 unfoldable pub sheetOf : List ℕ → List ℕ
 sheetOf x =
-    rcOf x ∷ rsOf x ∷ raOf x ∷ bOf x ∷ ysOf x ∷ ypOf x ∷ rOf x ∷ xOf x ∷ sOf x ∷ wOf x ∷ wdOf x ∷ ddOf x ∷ eOf x ∷ []
+    let a = own x in
+    let ν = numbersOf x in
+    R' x ∷ Rs x ∷ a .RA x ∷ B x ∷ ys x ∷ yp x ∷ ν .R ∷ a .X x ∷ ν .S ∷ ν .W ∷ Wd x ∷ ν .dd ∷ E x ∷ []
 
 unfoldable pub rated : List ℕ → Answer
 rated x = record { number = 0; rating = currentOf x; sheet = sheetOf x }
@@ -53,20 +39,20 @@ rated x = record { number = 0; rating = currentOf x; sheet = sheetOf x }
 -- refusals 10 and 11, or the rating
 unfoldable pub loaded : List ℕ → Answer
 loaded x =
-    cond (dielectricRefused (ddOf x) (riseOf x)) (refused 10)
+    cond (dielectricRefused (numbersOf x .dd) (riseOf x)) (refused 10)
     (cond (currentRefused (currentOf x)) (refused 11) (rated x))
 
 -- refusals 8 and 9 before them
 unfoldable pub judged : List ℕ → Answer
 judged x =
-    cond (skinRefused (zsOf x) (zpOf x)) (refused 8)
-    (cond (eddying x && eddyRefused (bOf x) (rsOf x)) (refused 9) (loaded x))
+    cond (skinRefused (zs x) (zp x)) (refused 8)
+    (cond (own x .eddies && eddyRefused (B x) (Rs x)) (refused 9) (loaded x))
 
 -- refusals 1 to 7 before them. It is shut: another crate names it and cites its theorems, and sees no stage.
 pub rateOf : List ℕ → Answer
-rateOf x = cond (eqb (screen x) 0) (judged x) (refused (screen x))
+rateOf x = cond (eqb (fieldRefusal x) 0) (judged x) (refused (fieldRefusal x))
 
 -- for the proofs of this crate
-pub rateOf-is : (x : List ℕ) → rateOf x ≡ cond (eqb (screen x) 0) (judged x) (refused (screen x))
+pub rateOf-is : (x : List ℕ) → rateOf x ≡ cond (eqb (fieldRefusal x) 0) (judged x) (refused (fieldRefusal x))
 unfolding rateOf
 rateOf-is x = refl

@@ -1,82 +1,72 @@
-// What the stages take of a case that refusals 1 to 7 let pass: its resistances, its rise, its z and the number of its cores.
+// What the stages take of a case that refusals 1 to 7 let pass: its resistances, its rise, B and its z.
 ghost use mathlib.Core.Path.{_≡_};
-ghost use Prim.Native.Nat.{_<_};
+ghost use Prim.Native.Nat.{_≤_, _<_};
 ghost use lib.IntN.{_-ℤ_, natAbs};
 ghost use mir.Syntax.{w32};
 ghost use mir.Val.{toZ};
-ghost use Rattle.rating.specs.Rise.{RiseRange};
-ghost use Rattle.rating.specs.Screening.{screen};
-ghost use Rattle.rating.specs.Values.{coresOf, rcOf, rsOf, raOf, bOf, zsOf, zpOf, riseOf};
-use super::screening::armoured;
+ghost use Rattle.formulas.specs.Skin.{skinRatio};
+ghost use Rattle.fields.specs.Fields as Field;
+ghost use Rattle.rating.specs.Laws.Rise.{RiseRange};
+ghost use Rattle.rating.specs.Laws.Sound.{Sound};
+ghost use Rattle.rating.specs.Values.{R', Rs, B, riseOf};
+use fields::AMBIENT_TEMPERATURE;
+use fields::CONDUCTOR;
+use fields::CONDUCTOR_RESISTANCE;
+use fields::CONDUCTOR_TEMPERATURE;
 use fields::Case;
+use fields::FREQUENCY;
+use fields::SHEATH_METAL;
+use fields::SHEATH_RESISTANCE;
+use fields::SHEATH_TEMPERATURE;
 use stages::reactance::reactance;
 use stages::resistance::resistance;
 use stages::resistance::signed;
 use stages::skin::skin_ratio;
 use stages::tables::coefficient;
 use stages::tables::conductor_metal;
-use stages::tables::kp;
-use stages::tables::ks;
 
 // A word as a number for the stages, with its range.
-pub(crate) fn long(n: u32) -> u64
+pub(crate) fn number(n: u32) -> u64
     ensures { λ r. ⌜ (r ≡ n) × (r < 4294967296) ⌝ }
 {
     n as u64
 }
 
-pub(crate) fn cores(x: Case) -> u64
-    ensures { λ r. ⌜ r ≡ coresOf x ⌝ }
-{
-    if armoured(x) {
-        return 3;
-    }
-    1
-}
-
 pub(crate) fn conductor_resistance(x: Case) -> u64
-    requires { ⌜ screen x ≡ 0 ⌝ }
-    ensures { λ r. ⌜ r ≡ rcOf x ⌝ }
+    requires { ⌜ Sound x ⌝ }
+    ensures { λ r. ⌜ r ≡ R' x ⌝ }
 {
-    resistance(x[5], coefficient(conductor_metal(x[1])), x[3])
+    resistance(
+        x[CONDUCTOR_RESISTANCE],
+        coefficient(conductor_metal(x[CONDUCTOR])),
+        x[CONDUCTOR_TEMPERATURE],
+    )
 }
 
 pub(crate) fn sheath_resistance(x: Case) -> u64
-    requires { ⌜ screen x ≡ 0 ⌝ }
-    ensures { λ r. ⌜ r ≡ rsOf x ⌝ }
+    requires { ⌜ Sound x ⌝ }
+    ensures { λ r. ⌜ r ≡ Rs x ⌝ }
 {
-    resistance(x[15], coefficient(x[14]), x[16])
-}
-
-pub(crate) fn armour_resistance(x: Case) -> u64
-    requires { ⌜ screen x ≡ 0 ⌝ }
-    ensures { λ r. ⌜ r ≡ raOf x ⌝ }
-{
-    if armoured(x) {
-        return resistance(x[18], coefficient(x[17]), x[19]);
-    }
-    0
+    resistance(
+        x[SHEATH_RESISTANCE],
+        coefficient(x[SHEATH_METAL]),
+        x[SHEATH_TEMPERATURE],
+    )
 }
 
 pub(crate) fn reactance_of(x: Case) -> u64
-    requires { ⌜ screen x ≡ 0 ⌝ }
-    ensures { λ r. ⌜ r ≡ bOf x ⌝ }
+    requires { ⌜ Sound x ⌝ }
+    ensures { λ r. ⌜ r ≡ B x ⌝ }
 {
-    reactance(long(x[2]))
+    reactance(number(x[FREQUENCY]))
 }
 
-pub(crate) fn skin_ratio_of(x: Case, rc: u64) -> u64
-    requires { ⌜ (screen x ≡ 0) × (rc ≡ rcOf x) ⌝ }
-    ensures { λ r. ⌜ r ≡ zsOf x ⌝ }
+// z with k, which is ks or kp.
+pub(crate) fn skin_ratio_of(x: Case, k: u32, rc: u64) -> u64
+    requires { ⌜ Sound x × (k ≤ 1000) × (rc ≡ R' x) ⌝ }
+    ensures { λ r. ⌜ r ≡ skinRatio (Field.frequency x) k (R' x) ⌝ }
 {
-    skin_ratio(long(x[2]), long(ks(x[1])), rc)
-}
-
-pub(crate) fn proximity_ratio_of(x: Case, rc: u64) -> u64
-    requires { ⌜ (screen x ≡ 0) × (rc ≡ rcOf x) ⌝ }
-    ensures { λ r. ⌜ r ≡ zpOf x ⌝ }
-{
-    skin_ratio(long(x[2]), long(kp(x[1])), rc)
+    skin_ratio(number(x[FREQUENCY]), number(k), rc)
 }
 
 // The first temperature less the second, which is the lower one.
@@ -88,8 +78,8 @@ fn difference(conductor: u32, ambient: u32) -> u64
 }
 
 pub(crate) fn rise(x: Case) -> u64
-    requires { ⌜ screen x ≡ 0 ⌝ }
+    requires { ⌜ Sound x ⌝ }
     ensures { λ r. ⌜ r ≡ riseOf x ⌝ }
 {
-    difference(x[3], x[4])
+    difference(x[CONDUCTOR_TEMPERATURE], x[AMBIENT_TEMPERATURE])
 }

@@ -1,10 +1,12 @@
 // Stages 3 and 4 on a case whose z passed refusal 8.
 ghost use mathlib.Core.Path.{_≡_};
-ghost use Prim.Native.Nat.{_≤_};
-ghost use Rattle.rating.specs.Screening.{screen};
-ghost use Rattle.rating.specs.Values.{rcOf, zsOf, zpOf, ysOf, ypOf, rOf};
-use super::case::long;
+ghost use Rattle.rating.specs.Arrangements.{own};
+ghost use Rattle.rating.specs.Laws.Fit.{Fit};
+ghost use Rattle.rating.specs.Values.{R', zs, zp, ys, yp, R};
+use super::case::number;
+use fields::CONDUCTOR_DIAMETER;
 use fields::Case;
+use fields::SPACING;
 use stages::proximity::ac_resistance;
 use stages::proximity::proximity_factor;
 use stages::proximity::spacing_ratio;
@@ -16,12 +18,14 @@ pub struct Heated {
     pub r: u64,
 }
 
-pub(crate) fn conductor(x: Case, rc: u64, zs: u64, zp: u64) -> Heated
-    requires { ⌜ (screen x ≡ 0) × (rc ≡ rcOf x) × (zs ≡ zsOf x) × (zp ≡ zpOf x) × (zs ≤ 7840000000000) × (zp ≤ 7840000000000) ⌝ }
-    ensures { λ h. ⌜ (h .ys ≡ ysOf x) × (h .yp ≡ ypOf x) × (h .r ≡ rOf x) ⌝ }
+// `skin` is z with ks, and `proximity` z with kp.
+pub(crate) fn conductor(x: Case, rc: u64, skin: u64, proximity: u64) -> Heated
+    requires { ⌜ Fit (own x) x × (rc ≡ R' x) × (skin ≡ zs x) × (proximity ≡ zp x) ⌝ }
+    ensures { λ h. ⌜ (h .ys ≡ ys x) × (h .yp ≡ yp x) × (h .r ≡ R x) ⌝ }
 {
-    let ys = factor(zs);
-    let yp = proximity_factor(spacing_ratio(long(x[6]), long(x[7])), factor(zp));
+    let ys = factor(skin);
+    let u = spacing_ratio(number(x[CONDUCTOR_DIAMETER]), number(x[SPACING]));
+    let yp = proximity_factor(u, factor(proximity));
     Heated {
         ys,
         yp,

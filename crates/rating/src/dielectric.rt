@@ -1,37 +1,48 @@
 // Stage 9 on a case.
 ghost use mathlib.Core.Path.{_≡_};
-ghost use Rattle.rating.specs.Screening.{screen};
-ghost use Rattle.rating.specs.Values.{bOf, wdOf, ddOf};
-use super::case::cores;
-use super::case::long;
+ghost use Prim.Native.Nat.{_≤_};
+ghost use Rattle.formulas.specs.Dielectric.{dielectricRise};
+ghost use Rattle.fields.specs.Fields as Field;
+ghost use Rattle.rating.specs.Laws.Sound.{Sound};
+ghost use Rattle.rating.specs.Values.{B, Wd};
+use super::case::number;
 use fields::Case;
+use fields::INSULATION_DIAMETER;
+use fields::LOSS_FACTOR;
+use fields::PERMITTIVITY;
+use fields::SCREEN_DIAMETER;
+use fields::T1;
+use fields::T2;
+use fields::T3;
+use fields::T4;
+use fields::VOLTAGE;
 use stages::dielectric::dielectric_loss;
 use stages::dielectric::dielectric_rise;
 use stages::logarithm::log_low;
 
 pub(crate) fn dielectric_loss_of(x: Case, b: u64) -> u64
-    requires { ⌜ (screen x ≡ 0) × (b ≡ bOf x) ⌝ }
-    ensures { λ r. ⌜ r ≡ wdOf x ⌝ }
+    requires { ⌜ Sound x × (b ≡ B x) ⌝ }
+    ensures { λ r. ⌜ r ≡ Wd x ⌝ }
 {
     dielectric_loss(
-        long(x[11]),
-        long(x[10]),
-        long(x[12]),
+        number(x[PERMITTIVITY]),
+        number(x[VOLTAGE]),
+        number(x[LOSS_FACTOR]),
         b,
-        log_low(long(x[9]), long(x[8])),
+        log_low(number(x[INSULATION_DIAMETER]), number(x[SCREEN_DIAMETER])),
     )
 }
 
-pub(crate) fn dielectric_rise_of(x: Case, wd: u64) -> u64
-    requires { ⌜ (screen x ≡ 0) × (wd ≡ wdOf x) ⌝ }
-    ensures { λ r. ⌜ r ≡ ddOf x ⌝ }
+pub(crate) fn dielectric_rise_of(x: Case, n: u64, wd: u64) -> u64
+    requires { ⌜ Sound x × (n ≤ 3) × (wd ≡ Wd x) ⌝ }
+    ensures { λ r. ⌜ r ≡ dielectricRise n (Wd x) (Field.t1 x) (Field.t2 x) (Field.t3 x) (Field.t4 x) ⌝ }
 {
     dielectric_rise(
-        cores(x),
+        n,
         wd,
-        long(x[22]),
-        long(x[23]),
-        long(x[24]),
-        long(x[25]),
+        number(x[T1]),
+        number(x[T2]),
+        number(x[T3]),
+        number(x[T4]),
     )
 }

@@ -1,7 +1,12 @@
-// Document 01's rating: from the 26 words of a case to the answer, the rating and the sheet.
+// The rating of docs/RATING.md: from the 26 words of a case to the answer, the rating and the sheet. Each arrangement has a module of
+// its own, and `arrangement` picks it.
+mod arrangement;
+mod both_ends;
 mod case;
 mod conductor;
 mod dielectric;
-mod losses;
+mod field_refusals;
+mod one_point;
 pub mod rate;
-mod screening;
+mod sheath_reactance;
+mod sl_type;

@@ -1,15 +1,18 @@
 // The rating of a case of any 26 words: refusals 1 to 11 in rising order, then stage 10.
 ghost use mathlib.Core.Path.{_≡_};
 ghost use Prim.Native.Nat.{_*_, _≤_};
-ghost use Rattle.rating.specs.Screening.{screen};
-ghost use Rattle.rating.specs.Values.{riseOf, ddOf, rOf, sOf, wOf, eOf, currentOf};
-ghost use Rattle.rating.specs.Passing.{Passing};
+ghost use Rattle.rating.specs.Arrangement;
+ghost use Rattle.rating.specs.Arrangements.{own};
+ghost use Rattle.rating.specs.FieldRefusals.{fieldRefusal};
+ghost use Rattle.rating.specs.Laws.Fit.{Fit};
+ghost use Rattle.rating.specs.Laws.Steps.{Holds};
 ghost use Rattle.rating.specs.Rate.{answerOf, refused, loaded, judged, rateOf};
-use super::case::armour_resistance;
+ghost use Rattle.rating.specs.Stage10.{numbersOf, E, currentOf};
+ghost use Rattle.rating.specs.Values.{riseOf};
+use super::arrangement::losses_of;
+use super::arrangement::rules_of;
 use super::case::conductor_resistance;
-use super::case::cores;
-use super::case::long;
-use super::case::proximity_ratio_of;
+use super::case::number;
 use super::case::reactance_of;
 use super::case::rise;
 use super::case::sheath_resistance;
@@ -17,12 +20,17 @@ use super::case::skin_ratio_of;
 use super::conductor::conductor;
 use super::dielectric::dielectric_loss_of;
 use super::dielectric::dielectric_rise_of;
-use super::losses::losses_of;
-use super::screening::eddying;
-use super::screening::screen;
+use super::field_refusals::field_refusal;
+use fields::CONDUCTOR;
 use fields::Case;
+use fields::T1;
+use fields::T2;
+use fields::T3;
+use fields::T4;
 use stages::rating::rating;
 use stages::rating::unit_rise;
+use stages::tables::kp;
+use stages::tables::ks;
 
 // The answer, 0 or the refusal's number; the rating in mA; and the sheet: R', Rs, RA, B, ys, yp, R, X, S, W, Wd, dd, E.
 pub struct Rated {
@@ -41,33 +49,34 @@ fn refuse(number: u32) -> Rated
     }
 }
 
-fn unit_rise_of(x: Case, r: u64, s: u64, w: u64) -> u64
-    requires { ⌜ (screen x ≡ 0) × (r ≡ rOf x) × (s ≡ sOf x) × (w ≡ wOf x) ⌝ ∗ ⌜ (r ≤ 788000000000000) × (s ≤ 610500000000000) ⌝ }
-    ensures { λ u. ⌜ u ≡ eOf x ⌝ }
+fn unit_rise_of(x: Case, n: u64, r: u64, s: u64, w: u64) -> u64
+    requires { ⌜ Fit (own x) x ⌝
+        ∗ ⌜ (n ≡ numbersOf x .n) × (r ≡ numbersOf x .R) × (s ≡ numbersOf x .S) × (w ≡ numbersOf x .W) ⌝ }
+    ensures { λ u. ⌜ u ≡ E x ⌝ }
 {
     unit_rise(
-        cores(x),
+        n,
         r,
         s,
         w,
-        long(x[22]),
-        long(x[23]),
-        long(x[24]),
-        long(x[25]),
+        number(x[T1]),
+        number(x[T2]),
+        number(x[T3]),
+        number(x[T4]),
     )
 }
 
 // Stage 10, where refusal 10 was not given.
 fn current_of(x: Case, permitted: u64, dd: u64, e: u64) -> u64
-    requires { ⌜ (screen x ≡ 0) × (permitted ≡ riseOf x) × (dd ≡ ddOf x) × (e ≡ eOf x) ⌝
-        ∗ ⌜ (10 * dd ≤ 90000000 * permitted) × (36500000 ≤ e) ⌝ }
+    requires { ⌜ Fit (own x) x × (permitted ≡ riseOf x) × (dd ≡ numbersOf x .dd) × (e ≡ E x) ⌝
+        ∗ ⌜ 10 * dd ≤ 90000000 * permitted ⌝ }
     ensures { λ i. ⌜ i ≡ currentOf x ⌝ }
 {
     rating(10000000 * permitted - dd, e)
 }
 
-// What a case has once refusals 1 to 9 were not given.
-pub struct Passed {
+// What a case has once refusals 1 to 9 were not given: R', z with ks and kp, B and Rs.
+pub struct Early {
     pub rc: u64,
     pub zs: u64,
     pub zp: u64,
@@ -75,20 +84,19 @@ pub struct Passed {
     pub rs: u64,
 }
 
-fn load(x: Case, p: Passed) -> Rated
-    requires { ⌜ (screen x ≡ 0) × Passing x p ⌝ }
+fn load(x: Case, p: Early) -> Rated
+    requires { ⌜ Fit (own x) x × Holds x p ⌝ }
     ensures { λ r. ⌜ answerOf r ≡ loaded x ⌝ }
 {
+    let l = losses_of(x, p.b, p.rs);
     let wd = dielectric_loss_of(x, p.b);
-    let dd = dielectric_rise_of(x, wd);
+    let dd = dielectric_rise_of(x, l.n, wd);
     let permitted = rise(x);
     if 90000000 * permitted < 10 * dd {
         return refuse(10);
     }
-    let ra = armour_resistance(x);
     let h = conductor(x, p.rc, p.zs, p.zp);
-    let l = losses_of(x, p.b, p.rs, ra);
-    let e = unit_rise_of(x, h.r, l.s, l.w);
+    let e = unit_rise_of(x, l.n, h.r, l.s, l.w);
     let i = current_of(x, permitted, dd, e);
     if 5000000 < i {
         return refuse(11);
@@ -99,7 +107,7 @@ fn load(x: Case, p: Passed) -> Rated
         sheet: [
             p.rc,
             p.rs,
-            ra,
+            l.ra,
             p.b,
             h.ys,
             h.yp,
@@ -114,30 +122,32 @@ fn load(x: Case, p: Passed) -> Rated
     }
 }
 
-fn judge(x: Case) -> Rated
-    requires { ⌜ screen x ≡ 0 ⌝ }
+// `eddies`: whether refusal 9 is tried.
+fn judge(x: Case, eddies: bool) -> Rated
+    requires { ⌜ (fieldRefusal x ≡ 0) × (eddies ≡ own x .eddies) ⌝ }
     ensures { λ r. ⌜ answerOf r ≡ judged x ⌝ }
 {
     let rc = conductor_resistance(x);
-    let zs = skin_ratio_of(x, rc);
-    let zp = proximity_ratio_of(x, rc);
+    let zs = skin_ratio_of(x, ks(x[CONDUCTOR]), rc);
+    let zp = skin_ratio_of(x, kp(x[CONDUCTOR]), rc);
     if (7840000000000 < zs) | (7840000000000 < zp) {
         return refuse(8);
     }
     let b = reactance_of(x);
     let rs = sheath_resistance(x);
-    if eddying(x) & (rs < 5 * b) {
+    if eddies & (rs < 5 * b) {
         return refuse(9);
     }
-    load(x, Passed { rc, zs, zp, b, rs })
+    load(x, Early { rc, zs, zp, b, rs })
 }
 
 pub fn rate(x: Case) -> Rated
     ensures { λ r. ⌜ answerOf r ≡ rateOf x ⌝ }
 {
-    let first = screen(x);
+    let rules = rules_of(x);
+    let first = field_refusal(x, rules);
     if first == 0 {
-        return judge(x);
+        return judge(x, rules.eddies);
     }
     refuse(first)
 }

@@ -5,10 +5,9 @@ use native.Mathlib.Omega.{arith}
 use Rattle.formulas.specs.Tables.{coefficient}
 use Rattle.formulas.specs.Resistance.{resistance}
 use Rattle.formulas.specs.Laws.TableRange.{coefficient-most, conductorMetal-range}
-use Rattle.rating.specs.Sound.{sound}
-use Rattle.rating.specs.Ranges.{above-cold}
+use Rattle.rating.specs.Laws.Ranges.{above-cold}
 use Rattle.fields.specs.Fields.{word, temperature}
-use Rattle.rating.specs.Values.{rcOf}
+use Rattle.rating.specs.Values.{R'}
 use lib.ListN.{getD}
 use Rattle.rating.proofs.case.conductor_resistance.Statement.{statement}
 use Rattle.rating.proofs.case.conductor_resistance.Tie as tie
@@ -20,7 +19,7 @@ coefficient-requires c κs =
 
 resistance-requires : tie.Need-resistance-requires
 resistance-requires c κs =
-    let fine = sound (c .before .before .args .t1) (c .before .before .pre) in (
+    let fine = c .before .before .pre in (
       fine .resistance .most,
       omega (arith, c .coefficient .ensures, coefficient-most (c .before .conductor-metal .result)),
       above-cold _ (fine .hot .least),
@@ -28,7 +27,7 @@ resistance-requires c κs =
     )
 
 returns : tie.Need-returns
-unfolding rcOf
+unfolding R'
 returns c =
     let alpha = c .before .coefficient .ensures ∙ ap coefficient (c .before .before .conductor-metal .ensures) in
     let x = c .before .before .before .args .t1 in

@@ -9,7 +9,7 @@ use mir.Syntax.{w32, w64}
 use mir.Val.{toZ, Fits}
 use Rattle.stages.proofs.Signed.{Is, read, fits-as, read-as}
 use Rattle.rating.proofs.Temperatures.{difference-is}
-use Rattle.rating.specs.Rise.{RiseRange}
+use Rattle.rating.specs.Laws.Rise.{RiseRange}
 use Prim.Native.Nat.{_<_}
 use Rattle.rating.proofs.case.difference.Statement.{statement}
 use Rattle.rating.proofs.case.difference.Tie as tie

@@ -4,21 +4,21 @@ use mathlib.Core.Path.{_∙_}
 use native.Mathlib.Omega.{arith}
 use Rattle.formulas.specs.Resistance.{resistance}
 use Rattle.formulas.specs.Laws.TableRange.{coefficient-most}
-use Rattle.rating.specs.Sound.{Sound, sound}
+use Rattle.rating.specs.Laws.Sound.{Sound}
 use Rattle.fields.specs.Fields.{word, temperature}
-use Rattle.rating.specs.Values.{rsOf}
+use Rattle.rating.specs.Values.{Rs}
 use lib.ListN.{getD}
 use Rattle.rating.proofs.case.sheath_resistance.Statement.{statement}
 use Rattle.rating.proofs.case.sheath_resistance.Tie as tie
 
 coefficient-requires : tie.Need-coefficient-requires
 coefficient-requires c κs =
-    let fine : Sound (c .args .t1) = sound _ (c .pre) in
+    let fine : Sound (c .args .t1) = c .pre in
     (fine .sheathMetal .least, fine .sheathMetal .most)
 
 resistance-requires : tie.Need-resistance-requires
 resistance-requires c κs =
-    let fine : Sound (c .before .args .t1) = sound _ (c .before .pre) in (
+    let fine : Sound (c .before .args .t1) = c .before .pre in (
       fine .sheathResistance .most,
       omega (arith, c .coefficient .ensures, coefficient-most (getD (c .before .args .t1) 14 0)),
       fine .sheathTemperature .least,
@@ -26,7 +26,7 @@ resistance-requires c κs =
     )
 
 returns : tie.Need-returns
-unfolding rsOf
+unfolding Rs
 returns c =
     let x = c .before .before .args .t1 in
     let alpha = c .before .coefficient .ensures in

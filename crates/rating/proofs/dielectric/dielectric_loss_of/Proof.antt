@@ -5,9 +5,9 @@ use native.Mathlib.Omega.{arith}
 use Rattle.formulas.specs.Logarithm.{logLow}
 use Rattle.formulas.specs.Dielectric.{dielectricLoss}
 use Rattle.fields.specs.Fields as Field
-use Rattle.rating.specs.Sound.{Sound, sound}
-use Rattle.rating.specs.Ranges.{b-range, insulationLog-range}
-use Rattle.rating.specs.Values.{wdOf}
+use Rattle.rating.specs.Values.{Wd}
+use Rattle.rating.specs.Laws.Sound.{Sound}
+use Rattle.rating.specs.Laws.Ranges.{B-range, insulationLog-range}
 use Rattle.rating.proofs.dielectric.dielectric_loss_of.Statement.{statement}
 use Rattle.rating.proofs.dielectric.dielectric_loss_of.Tie as tie
 
@@ -16,36 +16,38 @@ log-is :
     let x = c .before .before .before .before .before .before .args .t1 in
     c .log-low .result ≡ logLow (Field.insulationDiameter x) (Field.screenDiameter x)
 log-is c =
-    let di = c .before .before .long4 .ensures .0 in
-    let ds = c .before .long5 .ensures .0 in
+    let di = c .before .before .number4 .ensures .0 in
+    let ds = c .before .number5 .ensures .0 in
     c .log-low .ensures ∙ (λ i. logLow (di i) (ds i))
 
 log-low-requires : tie.Need-log-low-requires
 log-low-requires c κs =
     let start = c .before .before .before .before .before in
-    let fine : Sound (start .args .t1) = sound _ (start .pre .0) in
+    let fine : Sound (start .args .t1) = start .pre .0 in
     omega
-    (arith, c .long5 .ensures .0, c .before .long4 .ensures .0, fine .insulationDiameter, fine .screenDiameter, fine .insulated)
+    (arith, c .number5 .ensures .0, c .before .number4 .ensures .0, fine .insulationDiameter, fine .screenDiameter, fine .insulated)
 
 dielectric-loss-requires : tie.Need-dielectric-loss-requires
 dielectric-loss-requires c κs =
-    let start = c .before .before .before .before .before .before in
-    let fine : Sound (start .args .t1) = sound _ (start .pre .0) in (
-      omega (arith, c .before .before .before .before .before .long .ensures .0, fine .permittivity),
-      omega (arith, c .before .before .before .before .long2 .ensures .0, fine .voltage),
-      omega (arith, c .before .before .before .long3 .ensures .0, fine .lossFactor),
-      omega (arith, start .pre .1, b-range fine),
+    let third = c .before .before .before in
+    let start = third .before .before .before in
+    let fine : Sound (start .args .t1) = start .pre .0 in (
+      omega (arith, third .before .before .number .ensures .0, fine .permittivity),
+      omega (arith, third .before .number2 .ensures .0, fine .voltage),
+      omega (arith, third .number3 .ensures .0, fine .lossFactor),
+      omega (arith, start .pre .1, B-range fine),
       omega (arith, log-is c, insulationLog-range fine),
       omega (arith, log-is c, insulationLog-range fine),
     )
 
 returns : tie.Need-returns
-unfolding wdOf
+unfolding Wd
 returns c =
-    let e = c .before .before .before .before .before .before .long .ensures .0 in
-    let u0 = c .before .before .before .before .before .long2 .ensures .0 in
-    let t = c .before .before .before .before .long3 .ensures .0 in
-    let b = c .before .before .before .before .before .before .before .pre .1 in
+    let third = c .before .before .before .before in
+    let e = third .before .before .number .ensures .0 in
+    let u0 = third .before .number2 .ensures .0 in
+    let t = third .number3 .ensures .0 in
+    let b = third .before .before .before .pre .1 in
     let log = log-is (c .before) in
     c .dielectric-loss .ensures ∙ (λ i. dielectricLoss (e i) (u0 i) (t i) (b i) (log i))
 

@@ -6,18 +6,29 @@ use Rattle.rating.specs.Rate.{refused, rateOf-is}
 use Rattle.rating.proofs.rate.rate.Statement.{statement}
 use Rattle.rating.proofs.rate.rate.Tie as tie
 
+field-refusal-requires : tie.Need-field-refusal-requires
+field-refusal-requires c κs = c .rules-of .ensures
+
 judge-requires : tie.Need-judge-requires
-judge-requires c κs = sym (c .before .screen .ensures) ∙ c .if1 .taken
+judge-requires c κs = (sym (c .before .field-refusal .ensures) ∙ c .if1 .taken, c .before .before .rules-of .ensures .eddies)
 
 returns : tie.Need-returns
 returns c =
-    let passed = sym (c .before .before .screen .ensures) ∙ c .before .if1 .taken in
+    let passed = sym (c .before .before .field-refusal .ensures) ∙ c .before .if1 .taken in
     rw rateOf-is (simp (eq-eqb _ 0 passed) (c .judge .ensures))
 
 returns-2 : tie.Need-returns-2
 returns-2 c =
-    let first = c .before .before .screen .ensures in
+    let first = c .before .before .field-refusal .ensures in
     rw rateOf-is (simp (ne-eqb _ 0 (λ passed. c .before .if1 .left (first ∙ passed))) (c .refuse .ensures ∙ ap refused first))
 
 pub rate-spec : {M : Type 1} → statement M
-rate-spec = tie.close (tie.spec (λ c κs. search needs) judge-requires returns (λ c κs. search needs) returns-2)
+rate-spec =
+    tie.close
+    (tie.spec
+    (λ c κs. search needs)
+    field-refusal-requires
+    judge-requires
+    returns
+    (λ c κs. search needs)
+    returns-2)

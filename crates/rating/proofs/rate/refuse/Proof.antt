@@ -1,4 +1,4 @@
--- `refuse` is the definition: rating 0 and a sheet of zeros.
+-- `refuse` is the definition.
 use mathlib.Core.Path.{refl}
 use Rattle.rating.specs.Rate.{refused}
 use Rattle.rating.proofs.rate.refuse.Statement.{statement}

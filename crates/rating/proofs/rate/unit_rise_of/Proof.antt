@@ -1,51 +1,56 @@
--- `unit_rise_of` is the definition: E of the case's R, S and W.
+-- `unit_rise_of` is the definition: every number is in the range that its arrangement keeps.
 use borrow.Author.Needs.{needs}
 use mathlib.Core.Path.{_∙_}
 use native.Mathlib.Omega.{arith}
 use Rattle.formulas.specs.Rating.{unitRise}
-use Rattle.rating.specs.Sound.{Sound, sound}
-use Rattle.rating.specs.Ranges.{cores-most, w-most}
-use Rattle.rating.specs.Values.{eOf}
+use Rattle.rating.specs.Arrangements.{own}
+use Rattle.rating.specs.Stage10.{E}
+use Rattle.rating.specs.Laws.Fit.{Fit}
+use Rattle.rating.specs.Laws.Stage10.{numbers-in-range}
 use Rattle.rating.proofs.rate.unit_rise_of.Statement.{statement}
 use Rattle.rating.proofs.rate.unit_rise_of.Tie as tie
 
 unit-rise-requires : tie.Need-unit-rise-requires
 unit-rise-requires c κs =
-    let start = c .before .before .before .before .before in
-    let fine : Sound (start .args .t1) = sound _ (start .pre .0 .0) in (
+    let second = c .before .before in
+    let start = second .before .before in
+    let fit : Fit (own (start .args .t1)) (start .args .t1) = start .pre .0 in
+    let fine = fit .sound in
+    let ν = numbers-in-range fit in
+    let is = start .pre .1 in (
       (
-        omega (arith, c .before .before .before .before .cores .ensures, cores-most fine),
-        start .pre .1 .0,
-        start .pre .1 .1,
-        omega (arith, start .pre .0 .3, w-most fine),
+        omega (arith, is .0, ν .n),
+        omega (arith, is .1, ν .R),
+        omega (arith, is .2, ν .S),
+        omega (arith, is .3, ν .W),
       ),
       (
-        omega (arith, c .before .before .before .long .ensures .0, fine .t1),
-        omega (arith, c .before .before .long2 .ensures .0, fine .t2),
-        omega (arith, c .before .long3 .ensures .0, fine .t3),
-        omega (arith, c .long4 .ensures .0, fine .t4),
+        omega (arith, second .before .number .ensures .0, fine .t1),
+        omega (arith, second .number2 .ensures .0, fine .t2),
+        omega (arith, c .before .number3 .ensures .0, fine .t3),
+        omega (arith, c .number4 .ensures .0, fine .t4),
       ),
     )
 
 returns : tie.Need-returns
-unfolding eOf
+unfolding E
 returns c =
-    let pre = c .before .before .before .before .before .before .pre .0 in
-    let n = c .before .before .before .before .before .cores .ensures in
-    let r = pre .1 in
-    let s = pre .2 in
-    let w = pre .3 in
-    let t1 = c .before .before .before .before .long .ensures .0 in
-    let t2 = c .before .before .before .long2 .ensures .0 in
-    let t3 = c .before .before .long3 .ensures .0 in
-    let t4 = c .before .long4 .ensures .0 in
+    let second = c .before .before .before in
+    let is = second .before .before .pre .1 in
+    let n = is .0 in
+    let r = is .1 in
+    let s = is .2 in
+    let w = is .3 in
+    let t1 = second .before .number .ensures .0 in
+    let t2 = second .number2 .ensures .0 in
+    let t3 = c .before .before .number3 .ensures .0 in
+    let t4 = c .before .number4 .ensures .0 in
     c .unit-rise .ensures ∙ (λ i. unitRise (n i) (r i) (s i) (w i) (t1 i) (t2 i) (t3 i) (t4 i))
 
 pub unit-rise-of-spec : {M : Type 1} → statement M
 unit-rise-of-spec =
     tie.close
     (tie.spec
-    (λ c κs. search needs)
     (λ c. search needs)
     (λ c κs. search needs)
     (λ c. search needs)

@@ -1,0 +1,65 @@
+-- R, X, X- and Wd of a case against their exact values, by the bounds of their formulas. Assumes nothing.
+use mathlib.Core.List.{List}
+use Prim.Native.Nat.{ℕ, _≤_, _<_}
+use native.Mathlib.Nat.{mul-le-mul-right}
+use native.Mathlib.Omega.{arith}
+use lib.Dec.{lit<, lit≤}
+use Rattle.exact.specs.Fraction.{whole, _≤F_, ≤F-refl}
+use Rattle.exact.specs.Error.{Within, within-weaken}
+use Rattle.formulas.specs.Dielectric.{dielectricRise, dielectricRise*}
+use Rattle.formulas.specs.Laws.TableRange.{ks-range, kp-range}
+use Rattle.formulas.specs.Laws.CloseResistance.{resistance-close}
+use Rattle.formulas.specs.Laws.CloseSpacing.{sheathReactance-close}
+use Rattle.formulas.specs.Laws.CloseScreening.{sheathReactanceLow-close}
+use Rattle.formulas.specs.Laws.CloseDielectric.{loss-close, dielectric-close}
+use Rattle.fields.specs.Fields as Field
+use Rattle.rating.specs.Values.{B, zs, zp, ys, G, yp, R, X, XLow, Wd}
+use Rattle.rating.specs.Chosen.{Chosen, B*, R*, X*, Wd*}
+use Rattle.rating.specs.Laws.Sound.{Sound}
+use Rattle.rating.specs.Laws.Ranges.{R'-range, insulation-ratio, spacing-ratio}
+
+pub at-most : {n m : ℕ} → n ≤ m → whole n ≤F whole m
+at-most n≤ = record { left = lit< tt; right = lit< tt; across = mul-le-mul-right 1 n≤ }
+
+module _ {x : List ℕ} (c : Chosen x) (fine : Sound x) where
+  pub R-close :
+      zs x ≤ 7840000000000 → zp x ≤ 7840000000000 → Field.conductorDiameter x ≤ Field.spacing x →
+      Within 40000 (whole 0) (R* x c) (whole (R x))
+  unfolding R* R ys yp G zs zp
+  R-close zs≤ zp≤ spaced =
+      within-weaken (lit≤ tt) (≤F-refl (whole 0) (lit< tt))
+      (resistance-close (c .is-pi) (fine .frequency) (ks-range (fine .conductor)) (kp-range (fine .conductor)) (R'-range fine) zs≤ zp≤
+      (omega (arith, fine .spacing))
+      spaced)
+
+  pub dd-close :
+      {n : ℕ} → n ≤ 3 →
+      Within 2500 (whole 2)
+      (dielectricRise* n (Wd* x c) (Field.t1 x) (Field.t2 x) (Field.t3 x) (Field.t4 x))
+      (whole (dielectricRise n (Wd x) (Field.t1 x) (Field.t2 x) (Field.t3 x) (Field.t4 x)))
+  unfolding Wd* Wd B* B
+  dd-close n≤ =
+      within-weaken (lit≤ tt) (≤F-refl (whole 2) (lit< tt))
+      (dielectric-close n≤ (fine .t1 .most) (fine .t2 .most) (fine .t3 .most) (fine .t4 .most)
+      (loss-close (Field.permittivity x) (Field.voltage x) (Field.lossFactor x) (c .is-pi) (fine .frequency) (c .is-logInsulation)
+      (omega (arith, fine .screenDiameter))
+      (omega (arith, fine .insulated))
+      (insulation-ratio fine)))
+
+  -- where the sheaths do not overlap
+  module _ (apart : Field.sheathDiameter x ≤ Field.spacing x) where
+    d>0 : 0 < Field.sheathDiameter x
+    d>0 = omega (arith, fine .sheathDiameter)
+
+    pub X-close : Within 200 (whole 0) (X* x c) (whole (X x))
+    unfolding X* B* X B
+    X-close =
+        sheathReactance-close (Field.arrangement x) (c .is-pi) (c .is-ln2) (fine .frequency) (c .is-logSpacing) d>0 apart
+        (spacing-ratio fine apart)
+
+    pub XLow-close : Within 6000 (whole 1) (whole (XLow x)) (X* x c)
+    unfolding X* B* XLow
+    XLow-close =
+        within-weaken (lit≤ tt) (≤F-refl (whole 1) (lit< tt))
+        (sheathReactanceLow-close (Field.arrangement x) (c .is-pi) (c .is-ln2) (fine .frequency) (c .is-logSpacing) d>0 apart
+        (spacing-ratio fine apart))

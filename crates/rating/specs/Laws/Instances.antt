@@ -1,0 +1,117 @@
+-- Demand 3 on one case: a three-core SL type of 124 microhm/m at 19 kV, which rates 457.106 A, with fractions chosen for pi, ln 2 and
+-- the two logarithms. So the premise of the theorems is met. Assumes nothing.
+use mathlib.Core.Path.{_≡_, refl, ap, subst}
+use mathlib.Core.List.{List, [], _∷_}
+use Prim.Native.Nat.{ℕ, _+_, _*_, _^_}
+use lib.Dec.{lit<, lit≤}
+use Rattle.exact.specs.Rounding.{up, down}
+use Rattle.exact.specs.Fraction.{_over_, whole, _≤F_, _<F_}
+use Rattle.exact.specs.Root.{root}
+use Rattle.formulas.specs.Tables.{ksTable, kpTable, metalTable, entry, ks, kp, coefficient, conductorMetal}
+use Rattle.formulas.specs.Resistance.{temperatureFactor, resistance}
+use Rattle.formulas.specs.Reactance.{reactance, reactanceLow}
+use Rattle.formulas.specs.Skin.{skinReactance, skinRatio, skinRatioSquared, factor, skinFactor}
+use Rattle.formulas.specs.Proximity.{spacingRatio, proximityH, proximityG, proximityFactor, acResistance}
+use Rattle.formulas.specs.Spacing.{spacingLogHigh, spacingLogLow, sheathReactance, sheathReactanceLow}
+use Rattle.formulas.specs.Sheath.{bondRatio, bondRatioSquared, circulatingLoss, threeHalves, slLoss}
+use Rattle.formulas.specs.Armour.{
+  armourRatio,
+  armourRatioSquared,
+  armourResistance,
+  unscreenedLoss,
+  screeningRatioSquared,
+  screenedLoss,
+  armourLoss,
+}
+use Rattle.formulas.specs.Dielectric.{dielectricLoss, dielectricResistance, dielectricRise, permittedRise, currentRise}
+use Rattle.formulas.specs.Rating.{unitRise, rating}
+use Rattle.formulas.specs.Refusals.{skinRefused, eddyRefused, dielectricRefused, currentRefused}
+use Rattle.formulas.specs.Constants.{tera, piLow, piHigh, ln2Low, ln2High}
+use Rattle.formulas.specs.Logarithm.{doublings, octaves, doubled, series, firstPower, thirteenTerms, logLow, logHigh}
+use Rattle.rating.specs.Values.{R', Rs, RA, B, zs, zp, ys, G, yp, R, X, XLow, Wd, riseOf}
+use Rattle.rating.specs.Chosen.{Chosen}
+use Rattle.rating.specs.Arrangement.{alternating}
+use Rattle.rating.specs.SlType.{armourLimits, slType}
+use Rattle.rating.specs.Arrangements.{arrangementOf}
+use Rattle.rating.specs.FieldRefusals.{
+  arrangementHeld,
+  conductorHeld,
+  limitsHeld,
+  conductorLimits,
+  sheathLimits,
+  thermalLimits,
+  strayHeld,
+  geometryHeld,
+  heatHeld,
+  metalHeld,
+  fieldRefusal,
+}
+use Rattle.rating.specs.Stage10.{N, E, currentOf}
+use Rattle.rating.specs.Rate.{rated, loaded, judged, rateOf, rateOf-is}
+use Rattle.rating.specs.Exact.{exactRise, permittedOf}
+use Rattle.rating.specs.Laws.Margin.{safe, close, nearer}
+
+abbrev pub cable : List ℕ
+cable =
+    5 ∷ 1 ∷ 5000 ∷ 8500 ∷ 1500 ∷ 124000 ∷ 1450 ∷ 4200 ∷ 1750 ∷ 3600 ∷ 19000 ∷ 350 ∷ 1000 ∷ 4000 ∷ 1 ∷ 1000000 ∷ 6000 ∷ 6 ∷ 250000 ∷ 5500
+    ∷ 2500 ∷ 11000 ∷ 350000 ∷ 40000 ∷ 60000 ∷ 450000 ∷ []
+
+pub chosen : Chosen cable
+unfolding piLow piHigh logLow logHigh thirteenTerms series firstPower doubled octaves doublings ln2Low ln2High tera up down
+chosen =
+    record {
+      pi = 314159265358 over 10 ^ 11;
+      ln2 = 6931471805599 over 10 ^ 13;
+      logSpacing = 741937344729 over 10 ^ 12;
+      logInsulation = 721318057526 over 10 ^ 12;
+      is-pi =
+          record {
+            at-least = record { left = lit< tt; right = lit< tt; across = lit≤ tt };
+            at-most = record { left = lit< tt; right = lit< tt; across = lit≤ tt };
+          };
+      is-ln2 =
+          record {
+            at-least = record { left = lit< tt; right = lit< tt; across = lit≤ tt };
+            at-most = record { left = lit< tt; right = lit< tt; across = lit≤ tt };
+          };
+      is-logSpacing =
+          record {
+            at-least = record { left = lit< tt; right = lit< tt; across = lit≤ tt };
+            at-most = record { left = lit< tt; right = lit< tt; across = lit≤ tt };
+          };
+      is-logInsulation =
+          record {
+            at-least = record { left = lit< tt; right = lit< tt; across = lit≤ tt };
+            at-most = record { left = lit< tt; right = lit< tt; across = lit≤ tt };
+          };
+    }
+
+-- computed from the definitions alone
+pub answer : (rateOf cable .number ≡ 0) × (rateOf cable .rating ≡ 457106)
+unfolding judged loaded rated fieldRefusal arrangementHeld conductorHeld limitsHeld conductorLimits sheathLimits thermalLimits
+    strayHeld geometryHeld heatHeld metalHeld arrangementOf slType armourLimits alternating skinRefused eddyRefused
+    dielectricRefused currentRefused R' Rs RA B zs zp ys G yp R X XLow Wd riseOf N E currentOf ks kp coefficient conductorMetal
+    entry ksTable kpTable metalTable temperatureFactor resistance reactance reactanceLow skinReactance skinRatio skinRatioSquared
+    factor skinFactor spacingRatio proximityH proximityG proximityFactor acResistance logLow logHigh thirteenTerms series firstPower
+    doubled octaves doublings spacingLogHigh spacingLogLow sheathReactance sheathReactanceLow bondRatio bondRatioSquared
+    circulatingLoss threeHalves slLoss armourRatio armourRatioSquared armourResistance unscreenedLoss screeningRatioSquared
+    screenedLoss armourLoss dielectricLoss dielectricResistance dielectricRise permittedRise currentRise unitRise rating root piLow
+    piHigh ln2Low ln2High tera up down
+answer = (ap (λ a. a .number) (rateOf-is cable), ap (λ a. a .rating) (rateOf-is cable))
+
+permitted : permittedOf cable ≡ 70000000000
+unfolding permittedOf permittedRise riseOf
+permitted = refl
+
+under : exactRise cable chosen (whole 457106) ≤F whole 70000000000
+under = rw (← answer .1, ← permitted) (safe cable chosen (answer .0))
+
+over : whole 70000000000 <F exactRise cable chosen (whole (457106 + 2))
+over =
+    subst (λ i. whole 70000000000 <F exactRise cable chosen (whole (i + 2))) (answer .1)
+    (rw (← permitted) (close cable chosen (answer .0)))
+
+over-nearer : whole 70000000000 <F exactRise cable chosen (457106 * 10000001 + 10000000 over 10000000)
+over-nearer =
+    subst (λ i. whole 70000000000 <F exactRise cable chosen (i * 10000001 + 10000000 over 10000000)) (answer .1)
+    (rw (← permitted) (nearer cable chosen (answer .0)))

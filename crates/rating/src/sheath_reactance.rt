@@ -1,0 +1,45 @@
+// Stage 6 on a case whose sheaths do not overlap: X, and X- from below.
+ghost use mathlib.Core.Path.{_≡_};
+ghost use Prim.Native.Nat.{_≤_};
+ghost use Rattle.fields.specs.Fields.{sheathDiameter, spacing};
+ghost use Rattle.rating.specs.Laws.Sound.{Sound};
+ghost use Rattle.rating.specs.Values.{B, X, XLow};
+use super::case::number;
+use fields::ARRANGEMENT;
+use fields::Case;
+use fields::FREQUENCY;
+use fields::SHEATH_DIAMETER;
+use fields::SPACING;
+use stages::reactance::reactance_low;
+use stages::spacing::sheath_reactance;
+use stages::spacing::sheath_reactance_low;
+use stages::spacing::spacing_log_high;
+use stages::spacing::spacing_log_low;
+
+pub(crate) fn sheath_reactance_of(x: Case, b: u64) -> u64
+    requires { ⌜ Sound x × (sheathDiameter x ≤ spacing x) × (b ≡ B x) ⌝ }
+    ensures { λ r. ⌜ r ≡ X x ⌝ }
+{
+    sheath_reactance(
+        b,
+        spacing_log_high(
+            x[ARRANGEMENT],
+            number(x[SPACING]),
+            number(x[SHEATH_DIAMETER]),
+        ),
+    )
+}
+
+pub(crate) fn sheath_reactance_low_of(x: Case) -> u64
+    requires { ⌜ Sound x × (sheathDiameter x ≤ spacing x) ⌝ }
+    ensures { λ r. ⌜ r ≡ XLow x ⌝ }
+{
+    sheath_reactance_low(
+        reactance_low(number(x[FREQUENCY])),
+        spacing_log_low(
+            x[ARRANGEMENT],
+            number(x[SPACING]),
+            number(x[SHEATH_DIAMETER]),
+        ),
+    )
+}

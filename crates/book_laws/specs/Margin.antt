@@ -10,7 +10,7 @@ use Rattle.exact.specs.Fraction.{whole, _≤F_, _<F_}
 use Rattle.rating.specs.Rate.{rateOf}
 use Rattle.rating.specs.Chosen.{Chosen}
 use Rattle.rating.specs.Exact.{exactRise, permittedOf}
-use Rattle.rating.specs.Margin as Case
+use Rattle.rating.specs.Laws.Margin as Case
 use Rattle.book_laws.specs.Format.{recordLength}
 use Rattle.book_laws.specs.Trailer.{describe}
 use Rattle.book_laws.specs.TrailerLaws.{onBook-on}

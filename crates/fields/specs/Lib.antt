@@ -1,2 +1,2 @@
--- The fields of a case by name (docs/FIELDS.md). Assumes nothing.
+-- The fields of a case by name (docs/RATING.md, 'The fields of a case'). Assumes nothing.
 pub mod Fields

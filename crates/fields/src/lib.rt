@@ -1,4 +1,5 @@
-// The fields of a case by name (docs/FIELDS.md), and the types of a case and a record: every crate takes their width from here.
+// The fields of a case by name (docs/RATING.md, 'The fields of a case'), their count and the type of a case. Every crate takes them from
+// here.
 
 // How many inputs a case has.
 pub const WIDTH: usize = 26;

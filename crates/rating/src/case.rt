@@ -4,10 +4,13 @@ ghost use Prim.Native.Nat.{_≤_, _<_};
 ghost use lib.IntN.{_-ℤ_, natAbs};
 ghost use mir.Syntax.{w32};
 ghost use mir.Val.{toZ};
+ghost use Rattle.formulas.specs.Resistance;
 ghost use Rattle.formulas.specs.Skin.{skinRatio};
+ghost use Rattle.formulas.specs.Tables;
 ghost use Rattle.fields.specs.Fields as Field;
 ghost use Rattle.rating.specs.Laws.Rise.{RiseRange};
 ghost use Rattle.rating.specs.Laws.Sound.{Sound};
+ghost use Rattle.rating.specs.Laws.Steps.{MetalLimits};
 ghost use Rattle.rating.specs.Values.{R', Rs, B, riseOf};
 use fields::AMBIENT_TEMPERATURE;
 use fields::CONDUCTOR;
@@ -32,13 +35,21 @@ pub(crate) fn number(n: u32) -> u64
     n as u64
 }
 
+// Stage 1: the resistance of a metal, given at 20 °C, at a temperature.
+pub(crate) fn resistance_of(field: u32, metal: u32, theta: u32) -> u64
+    requires { ⌜ MetalLimits field metal (toZ w32 theta) ⌝ }
+    ensures { λ r. ⌜ r ≡ Resistance.resistance field (Tables.coefficient metal) (toZ w32 theta) ⌝ }
+{
+    resistance(field, coefficient(metal), theta)
+}
+
 pub(crate) fn conductor_resistance(x: Case) -> u64
     requires { ⌜ Sound x ⌝ }
     ensures { λ r. ⌜ r ≡ R' x ⌝ }
 {
-    resistance(
+    resistance_of(
         x[CONDUCTOR_RESISTANCE],
-        coefficient(conductor_metal(x[CONDUCTOR])),
+        conductor_metal(x[CONDUCTOR]),
         x[CONDUCTOR_TEMPERATURE],
     )
 }
@@ -47,11 +58,7 @@ pub(crate) fn sheath_resistance(x: Case) -> u64
     requires { ⌜ Sound x ⌝ }
     ensures { λ r. ⌜ r ≡ Rs x ⌝ }
 {
-    resistance(
-        x[SHEATH_RESISTANCE],
-        coefficient(x[SHEATH_METAL]),
-        x[SHEATH_TEMPERATURE],
-    )
+    resistance_of(x[SHEATH_RESISTANCE], x[SHEATH_METAL], x[SHEATH_TEMPERATURE])
 }
 
 pub(crate) fn reactance_of(x: Case) -> u64

@@ -10,6 +10,7 @@ ghost use Rattle.rating.specs.Values.{Rs, RA, B, XLow};
 use super::arrangement::Losses;
 use super::arrangement::Rules;
 use super::case::number;
+use super::case::resistance_of;
 use super::field_refusals::not_hotter;
 use super::field_refusals::within;
 use super::field_refusals::within_signed;
@@ -27,9 +28,7 @@ use fields::SHEATH_METAL;
 use fields::SPACING;
 use stages::armour::screened_loss;
 use stages::armour::unscreened_loss;
-use stages::resistance::resistance;
 use stages::sheath::sl_loss;
-use stages::tables::coefficient;
 
 fn armour_limits(x: Case) -> bool
     ensures { λ r. ⌜ r ≡ SlType.armourLimits x ⌝ }
@@ -60,11 +59,7 @@ fn armour_resistance(x: Case) -> u64
     requires { ⌜ Fit slType x ⌝ }
     ensures { λ r. ⌜ r ≡ RA x ⌝ }
 {
-    resistance(
-        x[ARMOUR_RESISTANCE],
-        coefficient(x[ARMOUR_METAL]),
-        x[ARMOUR_TEMPERATURE],
-    )
+    resistance_of(x[ARMOUR_RESISTANCE], x[ARMOUR_METAL], x[ARMOUR_TEMPERATURE])
 }
 
 fn armour_loss(x: Case, b: u64, rs: u64, ra: u64) -> u64

@@ -1,13 +1,29 @@
--- What the steps of `rate` hand on, for the contracts inside this crate: an arrangement's answers about the fields, its losses, and the
--- values that refusals 8 and 9 look at. Assumes nothing.
+-- What the steps of `rate` take and hand on, for the contracts inside this crate: the limits of a metal, an arrangement's answers about the
+-- fields, its losses, and the values of the first stages. Assumes nothing.
 use mathlib.Core.Path.{_≡_}
 use mathlib.Core.List.{List}
-use Prim.Native.Nat.{ℕ}
+use Prim.Native.Nat.{ℕ, _≤_}
+use lib.IntN.{ℤ, pos, negℤ}
 use Rattle.rating.specs.declared.arrangement.Rules.{Rules}
 use Rattle.rating.specs.declared.arrangement.Losses.{Losses}
+use Rattle.rating.specs.declared.conductor.Conduction.{Conduction}
 use Rattle.rating.specs.declared.rate.Early.{Early}
-use Rattle.rating.specs.Values.{R', Rs, B, zs, zp}
+use Rattle.formulas.specs.Laws.Ranges.{In}
+use Rattle.rating.specs.Values.{R', Rs, B, zs, zp, ys, yp, R}
 use Rattle.rating.specs.Arrangement.{Arrangement}
+use Rattle.rating.specs.Laws.Sound.{InZ}
+
+-- the limits of a metal's resistance at 20 °C, its code, and its temperature
+pub record MetalLimits (field metal : ℕ) (θ : ℤ) : Type 0 where
+  pub resistance : field ≤ 20000000
+  pub code : In 1 6 metal
+  pub temperature : InZ (negℤ (pos 4000)) (pos 25000) θ
+
+-- h holds ys, yp and R of the case x
+pub record Conducts (x : List ℕ) (h : Conduction) : Type 0 where
+  pub ys-is : h .ys ≡ ys x
+  pub yp-is : h .yp ≡ yp x
+  pub r-is : h .r ≡ R x
 
 -- r holds what the arrangement a asks of the case x
 pub record Asks (a : Arrangement) (x : List ℕ) (r : Rules) : Type 0 where

@@ -74,7 +74,7 @@ returns c =
     let ys = ys-is first in
     let yp = yp-is (c .before) in
     let rc = first .before .pre .1 in
-    (ys, yp, c .ac-resistance .ensures ∙ (λ i. acResistance (rc i) (ys i) (yp i)))
+    record { ys-is = ys; yp-is = yp; r-is = c .ac-resistance .ensures ∙ (λ i. acResistance (rc i) (ys i) (yp i)) }
 
 pub conductor-spec : {M : Type 1} → statement M
 conductor-spec =

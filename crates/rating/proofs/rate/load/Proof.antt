@@ -74,7 +74,7 @@ unit-rise-of-requires c κs =
     let losses = c .before .before .before .before .before in
     let x = losses .before .args .x in
     let l = losses .losses-of .ensures in
-    let r = c .conductor .ensures .2 ∙ sym (alternates (Field.arrangement x) .R-is x) in
+    let r = c .conductor .ensures .r-is ∙ sym (alternates (Field.arrangement x) .R-is x) in
     (losses .before .pre .0, (l .n-is, r, l .s-is, l .w-is))
 
 current-of-requires : tie.Need-current-of-requires
@@ -105,7 +105,7 @@ returns-3 c =
     let p = losses .before .pre .1 in
     let h = conductor .conductor .ensures in
     let l = losses .losses-of .ensures in
-    let r = h .2 ∙ sym (alternates (Field.arrangement x) .R-is x) in
+    let r = h .r-is ∙ sym (alternates (Field.arrangement x) .R-is x) in
     let under = ap (ltb 5000000) (sym (current .current-of .ensures)) ∙ le-ltb _ _ (c .if2 .left) in
     simp (hot rise ∙ le-ltb _ _ (cool .if1 .left), under)
     (λ j.
@@ -113,7 +113,7 @@ returns-3 c =
       number = 0;
       rating = current .current-of .ensures j;
       sheet =
-          p .rc-is j ∷ p .rs-is j ∷ l .ra-is j ∷ p .b-is j ∷ h .0 j ∷ h .1 j ∷ r j ∷ l .x-is j ∷ l .s-is j ∷ l .w-is j
+          p .rc-is j ∷ p .rs-is j ∷ l .ra-is j ∷ p .b-is j ∷ h .ys-is j ∷ h .yp-is j ∷ r j ∷ l .x-is j ∷ l .s-is j ∷ l .w-is j
           ∷ rise .before .before .dielectric-loss-of .ensures j
           ∷ dd-is (rise .before) j
           ∷ current .before .unit-rise-of .ensures j

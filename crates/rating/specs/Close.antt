@@ -7,8 +7,10 @@ use native.Mathlib.Nat.{mul-le-mul-right}
 use native.Mathlib.Omega.{arith}
 use lib.Dec.{eqb, lit<, lit≤}
 use borrow.Author.Tests.{eqb-true}
-use Rattle.exact.specs.Fraction.{whole, _≤F_, ≤F-refl}
-use Rattle.exact.specs.Error.{Within, within-refl, within-weaken}
+use Rattle.exact.specs.Fraction.{whole, _≤F_}
+use Rattle.exact.specs.Laws.Fraction.{≤F-refl}
+use Rattle.exact.specs.Error.{Within}
+use Rattle.exact.specs.Laws.Error.{within-refl, within-weaken}
 use Rattle.formulas.specs.Resistance.{resistance}
 use Rattle.formulas.specs.Sheath.{circulatingLoss, slLoss, eddyLoss, circulatingLoss*, slLoss*, eddyLoss*}
 use Rattle.formulas.specs.Armour.{armourLoss, armourLoss*}

@@ -5,7 +5,8 @@ use Prim.Native.Nat.{ℕ, zero, suc, _+_, _-_, _*_, _/_, _^_, _≤_, _<_}
 use native.Mathlib.Nat.{zero-add, le-trans, lt-of-le-of-lt, div-mul-le-self, lt-div-mul-add}
 use native.Mathlib.Omega.{arith}
 use lib.Dec.{lit<, lit≤}
-use Rattle.exact.specs.Rounding.{up, down, up-only, down-only}
+use Rattle.exact.specs.Rounding.{up, down}
+use Rattle.exact.specs.Laws.Rounding.{up-only, down-only}
 use Rattle.formulas.specs.Constants.{tera}
 use Rattle.formulas.specs.Logarithm.{series, thirteenTerms}
 use Rattle.formulas.specs.Laws.LogRange.{Bounded, power-most, term-most}

@@ -6,7 +6,8 @@ use native.Mathlib.Nat.{suc-ne-zero, mul-le-mul-left, mul-le-mul-right, lt-of-mu
 use native.Mathlib.Omega.{arith}
 use lib.Dec.{eqb}
 use borrow.Author.Tests.{eq-eqb, ne-eqb}
-use Rattle.exact.specs.Rounding.{up, down, up-only, down-only, down-close}
+use Rattle.exact.specs.Rounding.{up, down}
+use Rattle.exact.specs.Laws.Rounding.{up-only, down-only, down-close}
 
 -- n is q times c, and r below c is left over
 pub record Split (n c q r : ℕ) : Type 0 where

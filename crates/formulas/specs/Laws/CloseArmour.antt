@@ -5,25 +5,10 @@ use native.Mathlib.Nat.{mul-pos, mul-le-mul}
 use native.Mathlib.Omega.{arith}
 use lib.Dec.{lit<, lit≤}
 use Rattle.exact.specs.Rounding.{up, down}
-use Rattle.exact.specs.Fraction.{
-  Fraction,
-  _over_,
-  whole,
-  _+F_,
-  _*F_,
-  reciprocal,
-  _/F_,
-  square,
-  _≤F_,
-  _≃F_,
-  ≃F-refl,
-  ≤F-refl,
-  ≤F-trans,
-  *F-mono,
-}
-use Rattle.exact.specs.Error.{
-  parts,
-  Within,
+use Rattle.exact.specs.Fraction.{Fraction, _over_, whole, _+F_, _*F_, reciprocal, _/F_, square, _≤F_, _≃F_}
+use Rattle.exact.specs.Laws.Fraction.{closed≤, ≃F-refl, ≤F-refl, ≤F-trans, *F-mono}
+use Rattle.exact.specs.Error.{parts, Within}
+use Rattle.exact.specs.Laws.Error.{
   within-refl,
   within-weaken,
   within-trans,
@@ -122,7 +107,7 @@ ratio-close {π} {f} {ra} pi range ra-in =
     let same : (1 over 10 ^ 12) *F (554 * 10 ^ 9 * ra over reactance f) ≃F (554 over 1000) *F whole ra *F reciprocal (whole (reactance f)) =
     record { left = omega arith; right = omega arith; across = omega arith }
     in
-    within-weaken (lit≤ tt) (record { left = lit< tt; right = lit< tt; across = lit≤ tt })
+    within-weaken (lit≤ tt) (closed≤ tt)
     (within-trans (within-same (≃F-refl _ (lit< tt)) same rounded) exact)
 
 pub resistance-close :
@@ -135,7 +120,7 @@ resistance-close {π} {f} {ra} pi range ra-in =
     let same : whole ra *F (10 ^ 12 over 10 ^ 12 + down (y * y) (10 ^ 12)) ≃F ra * 10 ^ 12 over 10 ^ 12 + down (y * y) (10 ^ 12) =
     record { left = omega arith; right = omega arith; across = omega arith }
     in
-    within-weaken (lit≤ tt) (record { left = lit< tt; right = lit< tt; across = lit≤ tt })
+    within-weaken (lit≤ tt) (closed≤ tt)
     (within-trans (within-same (≃F-refl _ (scaled .below .left)) same scaled) (within-up (ra * 10 ^ 12) (omega arith)))
 
 spacing-close :
@@ -172,7 +157,7 @@ unscreened-close c {π} {f} {ra} {dA} pi range ra-in dA>0 c≤ =
     let upper : whole r *F (123 over 100) *F (s over 10 ^ 12) ≃F 123 * r * s over 10 ^ 14 =
     record { left = lit< tt; right = lit< tt; across = omega arith }
     in
-    within-weaken (lit≤ tt) (record { left = lit< tt; right = lit< tt; across = lit≤ tt })
+    within-weaken (lit≤ tt) (closed≤ tt)
     (within-trans (within-same lower upper both) (within-up (123 * r * s) (lit< tt)))
 
 -- The screening.
@@ -197,7 +182,7 @@ screening-ratio-close {x} {rs} {x*} x≥ rs-in p =
     let turned : (1 over rs) *F x* ≃F x* *F (1 over rs) =
     record { left = exact .below .right; right = omega (arith, exact .below .right); across = omega arith }
     in
-    within-weaken (lit≤ tt) (record { left = lit< tt; right = lit< tt; across = lit≤ tt })
+    within-weaken (lit≤ tt) (closed≤ tt)
     (within-trans (within-same (≃F-refl _ (lit< tt)) same rounded) (within-same (≃F-refl _ (exact .below .left)) turned exact))
 
 pub screening-close :
@@ -217,7 +202,7 @@ screening-close {x} {rs} {x*} x≥ rs-in p =
     let upper : whole (up (10 ^ 12 * 10 ^ 12) (10 ^ 12 + v2)) *F (1 over 10 ^ 12) ≃F up (10 ^ 12 * 10 ^ 12) (10 ^ 12 + v2) over 10 ^ 12 =
     record { left = lit< tt; right = lit< tt; across = omega arith }
     in
-    within-weaken (lit≤ tt) (record { left = lit< tt; right = lit< tt; across = lit≤ tt })
+    within-weaken (lit≤ tt) (closed≤ tt)
     (within-trans exact (within-same lower upper rounded))
 
 screening-most : (x : Fraction) → 0 < x .den → reciprocal (whole 1 +F square x) ≤F whole 1
@@ -246,5 +231,5 @@ armour-close c {π} {x*} {f} {ra} {dA} {x} {rs} pi range ra-in dA>0 c≤ x≥ rs
     let upper : whole w *F (s over 10 ^ 12) ≃F w * s over 10 ^ 12 =
     record { left = lit< tt; right = lit< tt; across = omega arith }
     in
-    within-weaken (lit≤ tt) (record { left = lit< tt; right = lit< tt; across = lit≤ tt })
+    within-weaken (lit≤ tt) (closed≤ tt)
     (within-trans (within-same (≃F-refl _ (both .below .left)) upper both) (within-up (w * s) (lit< tt)))

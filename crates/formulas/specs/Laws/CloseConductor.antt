@@ -4,10 +4,12 @@ use Prim.Native.Nat.{ℕ, _+_, _*_, _^_, _≤_, _<_}
 use native.Mathlib.Nat.{le-refl, mul-pos, mul-le-mul, mul-le-mul-right}
 use native.Mathlib.Omega.{arith}
 use lib.Dec.{lit<, lit≤}
-use Rattle.exact.specs.Rounding.{up, up-least-below}
-use Rattle.exact.specs.Fraction.{Fraction, _over_, whole, _+F_, _*F_, reciprocal, _/F_, square, _≤F_, _≃F_, ≃F-refl, ≤F-refl, ≤F-trans}
-use Rattle.exact.specs.Error.{
-  Within,
+use Rattle.exact.specs.Rounding.{up}
+use Rattle.exact.specs.Laws.Rounding.{up-least-below}
+use Rattle.exact.specs.Fraction.{Fraction, _over_, whole, _+F_, _*F_, reciprocal, _/F_, square, _≤F_, _≃F_}
+use Rattle.exact.specs.Laws.Fraction.{≃F-refl, ≤F-refl, ≤F-trans}
+use Rattle.exact.specs.Error.{Within}
+use Rattle.exact.specs.Laws.Error.{
   within-weaken,
   within-trans,
   within-same,

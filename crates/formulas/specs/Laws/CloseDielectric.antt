@@ -3,24 +3,10 @@
 use Prim.Native.Nat.{ℕ, _+_, _*_, _^_, _≤_, _<_}
 use native.Mathlib.Omega.{arith}
 use lib.Dec.{lit<, lit≤}
-use Rattle.exact.specs.Fraction.{
-  Fraction,
-  _over_,
-  whole,
-  _+F_,
-  _*F_,
-  reciprocal,
-  _≤F_,
-  _≃F_,
-  ≃F-refl,
-  ≤F-refl,
-  ≤F-trans,
-  +F-mono,
-  *F-mono,
-}
-use Rattle.exact.specs.Error.{
-  parts,
-  Within,
+use Rattle.exact.specs.Fraction.{Fraction, _over_, whole, _+F_, _*F_, reciprocal, _≤F_, _≃F_}
+use Rattle.exact.specs.Laws.Fraction.{closed≤, ≃F-refl, ≤F-refl, ≤F-trans, +F-mono, *F-mono}
+use Rattle.exact.specs.Error.{parts, Within}
+use Rattle.exact.specs.Laws.Error.{
   within-weaken,
   within-trans,
   within-same,
@@ -80,7 +66,7 @@ loss-close e u0 t {π} {log} {f} {di} {ds} pi range p ds>0 far near =
     k * reactance f over 360 * logLow di ds =
     record { left = omega arith; right = omega arith; across = omega arith }
     in
-    within-weaken (lit≤ tt) (record { left = lit< tt; right = lit< tt; across = lit≤ tt })
+    within-weaken (lit≤ tt) (closed≤ tt)
     (within-trans (within-same (≃F-refl _ (quotient .below .left)) same quotient) (within-up (k * reactance f) (omega arith)))
 
 -- the factor is at most 1/8, so that a unit of the loss is less than one of the rise
@@ -101,5 +87,5 @@ dielectric-close {n} {wd} {t1} {t2} {t3} {t4} {wd*} n≤ t1≤ t2≤ t3≤ t4≤
     let upper : whole wd *F (whole k *F reciprocal (whole (2 * 10 ^ 9))) ≃F wd * k over 2 * 10 ^ 9 =
     record { left = lit< tt; right = lit< tt; across = omega arith }
     in
-    within-weaken (lit≤ tt) (record { left = lit< tt; right = lit< tt; across = lit≤ tt })
+    within-weaken (lit≤ tt) (closed≤ tt)
     (within-trans (within-same lower upper scaled) (within-up (wd * k) (lit< tt)))

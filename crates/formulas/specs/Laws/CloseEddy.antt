@@ -3,19 +3,13 @@
 use Prim.Native.Nat.{ℕ, _*_, _≤_, _<_}
 use native.Mathlib.Nat.{mul-pos, mul-le-mul, le-refl}
 use native.Mathlib.Omega.{arith}
-use lib.Dec.{lit<, lit≤}
-use Rattle.exact.specs.Rounding.{up, up-least-below}
-use Rattle.exact.specs.Fraction.{Fraction, _over_, whole, _+F_, _*F_, square, _≤F_, ≤F-refl, ≃F-refl}
-use Rattle.exact.specs.Error.{
-  Within,
-  within-refl,
-  within-weaken,
-  within-same,
-  within-times,
-  within-product,
-  within-up-after,
-  within-up-over,
-}
+use lib.Dec.{lit<}
+use Rattle.exact.specs.Rounding.{up}
+use Rattle.exact.specs.Laws.Rounding.{up-least-below}
+use Rattle.exact.specs.Fraction.{Fraction, _over_, whole, _+F_, _*F_, square, _≤F_}
+use Rattle.exact.specs.Laws.Fraction.{closed≤, ≤F-refl, ≃F-refl}
+use Rattle.exact.specs.Error.{Within}
+use Rattle.exact.specs.Laws.Error.{within-refl, within-weaken, within-same, within-times, within-product, within-up-after, within-up-over}
 use Rattle.formulas.specs.Constants.{tera, IsPi}
 use Rattle.formulas.specs.Reactance.{reactance, reactance*}
 use Rattle.formulas.specs.Sheath.{
@@ -84,7 +78,7 @@ eddySpacing-close d {s} s>0 =
 -- two of 1/T of the largest Rs, and one rounding
 inner-units : ((1 over tera) +F (1 over tera)) *F whole 407000000000000 +F whole 1 ≤F whole 815
 unfolding _+F_ _*F_ tera
-inner-units = record { left = lit< tt; right = lit< tt; across = lit≤ tt }
+inner-units = closed≤ tt
 
 inner-close :
     {r e rs : ℕ} {e* : Fraction} → rs ≤ 407000000000000 → Within r ((1 over tera) +F (1 over tera)) e* (e over tera) →
@@ -102,7 +96,7 @@ inner-close {r} {rs = rs} rs≤ p =
 -- six times the inner error, a quarter of that, one unit of g' times the rest, and one rounding
 outer-units : whole 815 *F whole 6 *F (1 over 4) +F (1 over tera) *F whole 24420000000000 +F whole 1 ≤F whole 1248
 unfolding _+F_ _*F_ tera
-outer-units = record { left = lit< tt; right = lit< tt; across = lit≤ tt }
+outer-units = closed≤ tt
 
 outer-close :
     (rs : ℕ) (e* : Fraction) {r j n d s : ℕ} → j ≤ 2 → 0 < s → d ≤ s → n ≤ 4070000000000 → Within r (whole 815) (e* *F whole rs) (whole n) →

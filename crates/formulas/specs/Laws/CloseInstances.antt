@@ -1,12 +1,13 @@
 -- The laws of the exact rise applied to one cable, so that all their premises are seen to be met together: the three-core SL type of
 -- 124 microhm/m at 19 kV and 50 Hz, from its resistances on. It rates 457.106 A. Assumes nothing.
-use Prim.Native.Nat.{ℕ, _-_, _*_, _^_, _≤_, _<_}
-use native.Mathlib.Nat.{mul-le-mul-right}
+use Prim.Native.Nat.{ℕ, _-_, _*_, _^_, _≤_}
 use native.Mathlib.Omega.{arith}
 use lib.Dec.{lit<, lit≤}
 use Rattle.exact.specs.Rounding.{up, down}
-use Rattle.exact.specs.Fraction.{Fraction, _over_, whole, _≤F_, _<F_, ≤F-refl}
-use Rattle.exact.specs.Error.{Within, within-weaken}
+use Rattle.exact.specs.Fraction.{Fraction, _over_, whole, _≤F_, _<F_}
+use Rattle.exact.specs.Laws.Fraction.{closed≤, whole-mono, ≤F-refl}
+use Rattle.exact.specs.Error.{Within}
+use Rattle.exact.specs.Laws.Error.{within-weaken}
 use Rattle.formulas.specs.Constants.{tera, piLow, piHigh, ln2Low, ln2High, IsPi, IsLn2}
 use Rattle.formulas.specs.Reactance.{reactance, reactanceLow, reactance*}
 use Rattle.formulas.specs.Skin.{skinReactance, skinRatio, skinRatioSquared, factor, skinFactor, skinFactor*}
@@ -72,32 +73,32 @@ is-pi : IsPi π
 unfolding piLow piHigh
 is-pi =
     record {
-      at-least = record { left = lit< tt; right = lit< tt; across = lit≤ tt };
-      at-most = record { left = lit< tt; right = lit< tt; across = lit≤ tt };
+      at-least = closed≤ tt;
+      at-most = closed≤ tt;
     }
 
 is-ln2 : IsLn2 ln2
 unfolding ln2Low ln2High tera
 is-ln2 =
     record {
-      at-least = record { left = lit< tt; right = lit< tt; across = lit≤ tt };
-      at-most = record { left = lit< tt; right = lit< tt; across = lit≤ tt };
+      at-least = closed≤ tt;
+      at-most = closed≤ tt;
     }
 
 is-log-spacing : IsLog (2 * 4200) 4000 log-spacing
 unfolding logLow logHigh thirteenTerms series firstPower doubled octaves doublings ln2Low ln2High tera up down
 is-log-spacing =
     record {
-      at-least = record { left = lit< tt; right = lit< tt; across = lit≤ tt };
-      at-most = record { left = lit< tt; right = lit< tt; across = lit≤ tt };
+      at-least = closed≤ tt;
+      at-most = closed≤ tt;
     }
 
 is-log-insulation : IsLog 3600 1750 log-insulation
 unfolding logLow logHigh thirteenTerms series firstPower doubled octaves doublings ln2Low ln2High tera up down
 is-log-insulation =
     record {
-      at-least = record { left = lit< tt; right = lit< tt; across = lit≤ tt };
-      at-most = record { left = lit< tt; right = lit< tt; across = lit≤ tt };
+      at-least = closed≤ tt;
+      at-most = closed≤ tt;
     }
 
 frequency : In 1000 6500 5000
@@ -192,9 +193,6 @@ e = unitRise 3 r (slLoss x 11600000000000) w 350000 40000 60000 450000
 abbrev e* : Fraction
 e* = unitRise* 3 r* (slLoss* x* 11600000000000) w* 350000 40000 60000 450000
 
-less≤more : {n m : ℕ} → n ≤ m → whole n ≤F whole m
-less≤more n≤ = record { left = lit< tt; right = lit< tt; across = mul-le-mul-right 1 n≤ }
-
 r-least : 36500000000 ≤ r
 unfolding acResistance skinFactor factor skinRatioSquared skinRatio skinReactance proximityFactor proximityG proximityH spacingRatio piHigh tera up
 r-least = lit≤ tt
@@ -202,9 +200,9 @@ r-least = lit≤ tt
 e-close : Within 160000 (whole 0) e* (whole e)
 e-close =
     unitRise-close
-    (within-weaken (lit≤ tt) (less≤more (lit≤ tt)) r-close)
-    (within-weaken (lit≤ tt) (less≤more (lit≤ tt)) s-close)
-    (within-weaken (lit≤ tt) (less≤more (lit≤ tt)) w-close)
+    (within-weaken (lit≤ tt) (whole-mono (lit≤ tt)) r-close)
+    (within-weaken (lit≤ tt) (whole-mono (lit≤ tt)) s-close)
+    (within-weaken (lit≤ tt) (whole-mono (lit≤ tt)) w-close)
     r-least 3 350000 40000 60000 450000 (lit< tt) (lit≤ tt) (lit≤ tt)
 
 dd-share : 10 * dd ≤ 9 * 70000000000
@@ -220,7 +218,7 @@ rated : Rated e* dd* e dd (70000000000 - dd) 70000000000 457106
 rated =
     record {
       e-close = e-close;
-      dd-close = within-weaken (lit≤ tt) (less≤more (lit≤ tt)) dd-close;
+      dd-close = within-weaken (lit≤ tt) (whole-mono (lit≤ tt)) dd-close;
       left = omega (arith, dd-share);
       shares = dd-share;
       warm = lit≤ tt;

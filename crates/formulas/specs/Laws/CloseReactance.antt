@@ -1,10 +1,12 @@
 -- Stage 2 and the A of stage 3 against their exact values: pi's upper end and one rounding up keep them within 40 and 66 parts in
 -- 10^12. Every later bound begins with these. Assumes nothing.
-use Prim.Native.Nat.{ℕ, _+_, _*_, _^_, _≤_, _<_}
+use Prim.Native.Nat.{ℕ, _*_, _^_}
 use native.Mathlib.Omega.{arith}
-use lib.Dec.{lit<, lit≤}
-use Rattle.exact.specs.Fraction.{Fraction, _over_, whole, _+F_, _*F_, _≤F_, _≃F_, ≃F-refl, ≤F-refl, ≤F-trans, +F-mono}
-use Rattle.exact.specs.Error.{parts, Within, within-scale, within-round, within-same}
+use lib.Dec.{lit<}
+use Rattle.exact.specs.Fraction.{Fraction, _over_, whole, _+F_, _*F_, _≃F_}
+use Rattle.exact.specs.Laws.Fraction.{closed≤, ≃F-refl, ≤F-refl, ≤F-trans, +F-mono}
+use Rattle.exact.specs.Error.{parts, Within}
+use Rattle.exact.specs.Laws.Error.{within-scale, within-round, within-same}
 use Rattle.formulas.specs.Constants.{piLow, piHigh, IsPi}
 use Rattle.formulas.specs.Reactance.{reactance, reactance*}
 use Rattle.formulas.specs.Laws.Ranges.{In, reactance-range}
@@ -16,7 +18,7 @@ pi-within p =
       below = p .at-most;
       close =
           ≤F-trans
-          (record { left = lit< tt; right = lit< tt; across = lit≤ tt })
+          (closed≤ tt)
           (+F-mono (p .at-least) (≤F-refl (parts 32 *F (31415926536 over 10 ^ 10) +F whole 0) (lit< tt)));
     }
 

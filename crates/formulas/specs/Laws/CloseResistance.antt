@@ -4,10 +4,10 @@ use Prim.Native.Nat.{ℕ, _+_, _*_, _^_, _≤_, _<_}
 use native.Mathlib.Nat.{mul-pos, mul-le-mul-right}
 use native.Mathlib.Omega.{arith}
 use lib.Dec.{lit<, lit≤}
-use Rattle.exact.specs.Fraction.{Fraction, _over_, whole, _+F_, _*F_, _≤F_, _≃F_, ≃F-refl, ≤F-refl, ≤F-trans, +F-comm, *F-comm, *F-assoc}
-use Rattle.exact.specs.Error.{
-  parts,
-  Within,
+use Rattle.exact.specs.Fraction.{Fraction, _over_, whole, _+F_, _*F_, _≤F_, _≃F_}
+use Rattle.exact.specs.Laws.Fraction.{closed≤, ≃F-refl, ≤F-refl, ≤F-trans, +F-comm, *F-comm, *F-assoc}
+use Rattle.exact.specs.Error.{parts, Within}
+use Rattle.exact.specs.Laws.Error.{
   within-refl,
   within-weaken,
   within-same,
@@ -105,7 +105,7 @@ proximityG-close {x} {y} {u} {g} u≤ g≤ p q =
     let same : (u * g over tera * tera) *F k ≃F 312 * u * g over 10 ^ 15 * tera =
     record { left = lit< tt; right = lit< tt; across = omega arith }
     in
-    let errors : (3 over tera) *F k ≤F 3 over tera = record { left = lit< tt; right = lit< tt; across = lit≤ tt } in
+    let errors : (3 over tera) *F k ≤F 3 over tera = closed≤ tt in
     let scaled : Within 132 (3 over tera) (x *F y *F k) (312 * u * g over 10 ^ 15 * tera) =
     rewrite-above same errors (within-times (≤F-refl k (lit< tt)) product)
     in

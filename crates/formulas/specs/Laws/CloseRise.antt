@@ -1,7 +1,7 @@
 -- Stage 10 from bounds on E and dd alone: the exact rise at the rating is at most the permitted rise, and at 2 mA more it is above.
 -- An arrangement adds only how close its own R, S, W and dd are. Assumes nothing.
 use mathlib.Core.Path.{_≡_, sym, _∙_, ap}
-use Prim.Native.Nat.{ℕ, _+_, _-_, _*_, _^_, _≤_, _<_}
+use Prim.Native.Nat.{ℕ, _+_, _*_, _^_, _≤_, _<_}
 use native.Mathlib.Nat.{
   le-refl,
   le-trans,
@@ -19,7 +19,8 @@ use native.Mathlib.Nat.{
 }
 use native.Mathlib.Omega.{arith}
 use lib.Dec.{lit<}
-use Rattle.exact.specs.Fraction.{Fraction, _over_, whole, _+F_, _*F_, reciprocal, square, _≤F_, _<F_, ≤F-refl, ≤F-trans, +F-mono, *F-mono}
+use Rattle.exact.specs.Fraction.{Fraction, _over_, whole, _+F_, _*F_, reciprocal, square, _≤F_, _<F_}
+use Rattle.exact.specs.Laws.Fraction.{≤F-refl, ≤F-trans, +F-mono, *F-mono}
 use Rattle.exact.specs.Error.{parts, Within}
 use Rattle.formulas.specs.Rating.{rise*}
 use Rattle.formulas.specs.Laws.Current.{IsRating}

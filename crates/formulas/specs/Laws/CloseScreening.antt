@@ -5,25 +5,12 @@ use Prim.Native.Nat.{ℕ, _+_, _*_, _^_, _≤_, _<_}
 use native.Mathlib.Nat.{mul-pos, mul-le-mul, mul-le-mul-right, le-refl, le-trans, le-add-right}
 use native.Mathlib.Omega.{arith}
 use lib.Dec.{eqb, lit<, lit≤}
-use Rattle.exact.specs.Rounding.{up, down, down-most}
-use Rattle.exact.specs.Fraction.{
-  Fraction,
-  _over_,
-  whole,
-  _+F_,
-  _*F_,
-  reciprocal,
-  _/F_,
-  _≤F_,
-  ≃F-refl,
-  ≤F-refl,
-  ≤F-trans,
-  +F-mono,
-  *F-mono,
-}
-use Rattle.exact.specs.Error.{
-  parts,
-  Within,
+use Rattle.exact.specs.Rounding.{up, down}
+use Rattle.exact.specs.Laws.Rounding.{down-most}
+use Rattle.exact.specs.Fraction.{Fraction, _over_, whole, _+F_, _*F_, reciprocal, _/F_, _≤F_}
+use Rattle.exact.specs.Laws.Fraction.{closed≤, ≃F-refl, ≤F-refl, ≤F-trans, +F-mono, *F-mono}
+use Rattle.exact.specs.Error.{parts, Within}
+use Rattle.exact.specs.Laws.Error.{
   within-weaken,
   within-sum,
   within-trans,
@@ -145,7 +132,7 @@ sheathReactanceLow-rounds b l =
 
 one-and : whole 1 +F whole 0 ≤F whole 1
 unfolding _+F_
-one-and = record { left = lit< tt; right = lit< tt; across = lit≤ tt }
+one-and = closed≤ tt
 
 pub sheathReactanceLow-close :
     (arrangement : ℕ) {f s d : ℕ} {π log ln2 : Fraction} → IsPi π → IsLn2 ln2 → In 1000 6500 f → IsLog (2 * s) d log → 0 < d →

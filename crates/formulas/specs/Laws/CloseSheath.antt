@@ -4,11 +4,12 @@ use Prim.Native.Nat.{ℕ, _+_, _*_, _≤_, _<_}
 use native.Mathlib.Nat.{mul-pos, mul-le-mul-right, le-refl}
 use native.Mathlib.Omega.{arith}
 use lib.Dec.{lit<, lit≤}
-use Rattle.exact.specs.Rounding.{up, down, up-least-below}
-use Rattle.exact.specs.Fraction.{Fraction, _over_, whole, _+F_, _*F_, reciprocal, _/F_, square, _≤F_, ≤F-refl}
-use Rattle.exact.specs.Error.{
-  parts,
-  Within,
+use Rattle.exact.specs.Rounding.{up, down}
+use Rattle.exact.specs.Laws.Rounding.{up-least-below}
+use Rattle.exact.specs.Fraction.{Fraction, _over_, whole, _+F_, _*F_, reciprocal, _/F_, square, _≤F_}
+use Rattle.exact.specs.Laws.Fraction.{closed≤, ≤F-refl}
+use Rattle.exact.specs.Error.{parts, Within}
+use Rattle.exact.specs.Laws.Error.{
   within-weaken,
   within-trans,
   within-same,
@@ -124,7 +125,7 @@ bondRatioSquared-close {x} {rs} x≥ rs-range p =
 -- 1/T of the largest Rs, and one rounding
 unit-of-most : (1 over tera) *F whole 407000000000000 +F whole 1 ≤F whole 408
 unfolding _+F_ _*F_ tera
-unit-of-most = record { left = lit< tt; right = lit< tt; across = lit≤ tt }
+unit-of-most = closed≤ tt
 
 loss-close :
     {r v2 rs : ℕ} {u : Fraction} → rs ≤ 407000000000000 → Within r (1 over tera) u (v2 over tera) →
@@ -148,7 +149,7 @@ circulating-close x≥ rs-range p = loss-close (rs-range .most) (bondRatioSquare
 
 three-halves-of : whole 408 *F (3 over 2) +F whole 1 ≤F whole 613
 unfolding _+F_ _*F_
-three-halves-of = record { left = lit< tt; right = lit< tt; across = lit≤ tt }
+three-halves-of = closed≤ tt
 
 pub sl-close :
     {x rs : ℕ} {x* : Fraction} → 87000000000 ≤ x → In 7300000000 407000000000000 rs → Within 200 (whole 0) x* (whole x) →

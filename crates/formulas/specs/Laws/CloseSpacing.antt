@@ -5,9 +5,11 @@ use Prim.Native.Nat.{ℕ, zero, suc, _+_, _*_, _≤_, _<_}
 use native.Mathlib.Nat.{mul-pos, mul-le-mul, mul-le-mul-right, le-refl, le-trans, le-add-right}
 use native.Mathlib.Omega.{arith}
 use lib.Dec.{eqb, lit<, lit≤}
-use Rattle.exact.specs.Rounding.{up-least-below}
-use Rattle.exact.specs.Fraction.{Fraction, _over_, whole, _+F_, _*F_, reciprocal, _/F_, _≤F_, ≃F-refl, ≤F-refl, ≤F-trans, +F-mono}
-use Rattle.exact.specs.Error.{parts, Within, within-weaken, within-sum, within-scale, within-relative-product, within-round, within-same}
+use Rattle.exact.specs.Laws.Rounding.{up-least-below}
+use Rattle.exact.specs.Fraction.{Fraction, _over_, whole, _+F_, _*F_, reciprocal, _/F_, _≤F_}
+use Rattle.exact.specs.Laws.Fraction.{closed≤, ≃F-refl, ≤F-refl, ≤F-trans, +F-mono}
+use Rattle.exact.specs.Error.{parts, Within}
+use Rattle.exact.specs.Laws.Error.{within-weaken, within-sum, within-scale, within-relative-product, within-round, within-same}
 use Rattle.formulas.specs.Constants.{tera, ln2Low, ln2High, ln2ThirdHigh, Between, IsPi, IsLn2}
 use Rattle.formulas.specs.Reactance.{reactance, reactance*}
 use Rattle.formulas.specs.Logarithm.{octaves, logLow, logHigh, IsLog}
@@ -79,7 +81,7 @@ third-close {ln2} p =
 
 pub zero-and-zero : whole 0 +F whole 0 ≤F whole 0
 unfolding _+F_
-zero-and-zero = record { left = lit< tt; right = lit< tt; across = lit≤ tt }
+zero-and-zero = closed≤ tt
 
 with-third :
     (is-two : Bool) {high third : ℕ} {log x : Fraction} → Within 145 (whole 0) log (high over tera) →

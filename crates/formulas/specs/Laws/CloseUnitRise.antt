@@ -4,34 +4,12 @@ use Prim.Native.Nat.{ℕ, _+_, _*_, _^_, _≤_, _<_}
 use native.Mathlib.Nat.{le-trans, le-add-left, mul-le-mul, mul-le-mul-right}
 use native.Mathlib.Omega.{arith}
 use lib.Dec.{lit<, lit≤}
-use Rattle.exact.specs.Rounding.{up, up-least-below}
-use Rattle.exact.specs.Fraction.{
-  Fraction,
-  _over_,
-  whole,
-  _+F_,
-  _*F_,
-  reciprocal,
-  _/F_,
-  _≤F_,
-  _≃F_,
-  ≃F-refl,
-  ≤F-refl,
-  *F-comm,
-  whole-+F,
-  whole-*F,
-}
-use Rattle.exact.specs.Error.{
-  parts,
-  Within,
-  within-weaken,
-  within-trans,
-  within-absorb,
-  within-sum,
-  within-scale,
-  within-same,
-  within-up,
-}
+use Rattle.exact.specs.Rounding.{up}
+use Rattle.exact.specs.Laws.Rounding.{up-least-below}
+use Rattle.exact.specs.Fraction.{Fraction, _over_, whole, _+F_, _*F_, reciprocal, _/F_}
+use Rattle.exact.specs.Laws.Fraction.{closed≤, ≃F-refl, ≤F-refl, *F-comm, whole-+F, whole-*F}
+use Rattle.exact.specs.Error.{parts, Within}
+use Rattle.exact.specs.Laws.Error.{within-weaken, within-trans, within-absorb, within-sum, within-scale, within-same, within-up}
 use Rattle.formulas.specs.Rating.{unitRise, unitRise*}
 
 -- the rise across one thermal resistance t
@@ -50,7 +28,7 @@ part-close {q} {x*} x t p =
     let exact : Within q (whole 0) (x* *F whole t /F whole (10 ^ 6)) (x * t over 10 ^ 6) =
     within-same (≃F-refl _ (divided .below .left)) (record { left = lit< tt; right = lit< tt; across = omega arith }) divided
     in
-    within-weaken (omega arith) (record { left = lit< tt; right = lit< tt; across = lit≤ tt }) (within-trans exact (within-up (x * t) (lit< tt)))
+    within-weaken (omega arith) (closed≤ tt) (within-trans exact (within-up (x * t) (lit< tt)))
 
 -- sums and multiples of whole numbers, with whole errors
 

@@ -5,7 +5,8 @@ use Prim.Native.Nat.{ℕ, zero, suc, _+_, _-_, _*_, _≤_, _<_}
 use native.Mathlib.Nat.{mul-le-mul-left, mul-le-mul-right, le-trans, add-le-add, le-refl}
 use native.Mathlib.Omega.{arith}
 use lib.Dec.{lit<, lit≤}
-use Rattle.exact.specs.Rounding.{up, down, up-least, down-close, up-le-suc-down}
+use Rattle.exact.specs.Rounding.{up, down}
+use Rattle.exact.specs.Laws.Rounding.{up-least, down-close, up-le-suc-down}
 use Rattle.formulas.specs.Constants.{tera, ln2Low, ln2High}
 use Rattle.formulas.specs.Logarithm.{doubled, series, firstPower, termCount, thirteenTerms, logLow, logHigh}
 use Rattle.formulas.specs.Laws.LogRange.{up-bounded, down-bounded, power-most, firstPower-most, octaves-most}

@@ -6,8 +6,10 @@ use Prim.Native.Nat.{ℕ, zero, suc, _+_, _-_, _*_, _^_, _≤_, _<_}
 use native.Mathlib.Nat.{pow-zero, pow-suc, one-mul, add-comm, mul-pos, mul-le-mul, mul-le-mul-left, mul-le-mul-right, le-of-mul-le-mul-left}
 use native.Mathlib.Omega.{arith}
 use lib.Dec.{lit<}
-use Rattle.exact.specs.Rounding.{up, down, up-above, down-below}
-use Rattle.exact.specs.Fraction.{Fraction, whole, _+F_, _*F_, reciprocal, _≤F_, ≤F-refl, ≤F-trans, ≃F→≤F, ≃F-sym, +F-mono, *F-mono, *F-+F, whole-+F}
+use Rattle.exact.specs.Rounding.{up, down}
+use Rattle.exact.specs.Laws.Rounding.{up-above, down-below}
+use Rattle.exact.specs.Fraction.{Fraction, whole, _+F_, _*F_, reciprocal, _≤F_}
+use Rattle.exact.specs.Laws.Fraction.{≤F-refl, ≤F-trans, ≃F→≤F, ≃F-sym, +F-mono, *F-mono, *F-+F, whole-+F}
 use Rattle.formulas.specs.Constants.{tera}
 use Rattle.formulas.specs.Logarithm.{octaves, doubled, series, firstPower, termCount, thirteenTerms, zeta, artanhTerm, artanhSum, artanhRest}
 use Rattle.formulas.specs.Laws.Octaves.{Largest, octaves-largest}

@@ -1,12 +1,13 @@
 -- How large stage 5's ends get: each is at most 18.4 T where a/b is below 2^15, and the lower one is at least 0.048 T where a/b is
 -- 1.05 or more, so that stage 9 does not divide by too little. Assumes nothing.
 use mathlib.Core.Path.{_≡_, refl, ap, _∙_}
-use Prim.Native.Nat.{ℕ, zero, suc, _+_, _-_, _*_, _^_, _≤_, _<_}
+use Prim.Native.Nat.{ℕ, zero, suc, _+_, _*_, _^_, _≤_, _<_}
 use native.Mathlib.Nat.{le-trans, le-add-right, one-mul, mul-le-mul, lt-of-mul-lt-mul-right, lt-of-le-of-lt, lt-of-not-le}
 use native.Mathlib.Omega.{arith}
 use lib.Dec.{lit<, lit≤}
 use lib.Pow.{pow-mono}
-use Rattle.exact.specs.Rounding.{up, down, up-least, down-most, down-most-above}
+use Rattle.exact.specs.Rounding.{up, down}
+use Rattle.exact.specs.Laws.Rounding.{up-least, down-most, down-most-above}
 use Rattle.formulas.specs.Constants.{tera, ln2Low, ln2High}
 use Rattle.formulas.specs.Logarithm.{octaves, doubled, series, firstPower, termCount, thirteenTerms, logLow, logHigh}
 use Rattle.formulas.specs.Laws.Octaves.{Largest, octaves-largest}

@@ -7,7 +7,8 @@ use native.Mathlib.Omega.{arith}
 use lib.Dec.{eqb, lit<, lit≤}
 use lib.IntN.{ℤ, pos, negℤ}
 use lib.Signed.{_≤ℤ_}
-use Rattle.exact.specs.Rounding.{up, down, up-least, up-least-below, down-most-above}
+use Rattle.exact.specs.Rounding.{up, down}
+use Rattle.exact.specs.Laws.Rounding.{up-least, up-least-below, down-most-above}
 use Rattle.formulas.specs.Constants.{tera, piLow, piHigh, ln2ThirdLow, ln2ThirdHigh}
 use Rattle.formulas.specs.Resistance.{temperatureFactor, resistance}
 use Rattle.formulas.specs.Reactance.{reactance, reactanceLow}

@@ -2,7 +2,8 @@
 use borrow.Author.Needs.{needs}
 use mathlib.Core.Path.{_∙_, ap}
 use native.Mathlib.Omega.{arith}
-use Rattle.exact.specs.Root.{root, root-is, root-only}
+use Rattle.exact.specs.Root.{root}
+use Rattle.exact.specs.Laws.Root.{root-is, root-only}
 use Rattle.formulas.specs.Rating.{rating}
 use Rattle.stages.proofs.Quotients.{fits-down}
 use Rattle.stages.proofs.rating.rating.Statement.{statement}

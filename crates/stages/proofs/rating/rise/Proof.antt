@@ -2,7 +2,7 @@
 use native.Mathlib.Omega.{arith}
 use native.Mathlib.Nat.{mul-le-mul}
 use lib.Dec.{lit<}
-use Rattle.exact.specs.Rounding.{up-least}
+use Rattle.exact.specs.Laws.Rounding.{up-least}
 use Rattle.stages.proofs.Quotients.{fits-up}
 use Prim.Native.Nat.{_*_, _≤_}
 use Rattle.stages.proofs.rating.rise.Statement.{statement}

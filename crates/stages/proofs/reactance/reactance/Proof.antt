@@ -1,7 +1,7 @@
 -- `stages::reactance::reactance` is the definition, as code rounds up.
 use borrow.Author.Needs.{needs}
 use mathlib.Core.Path.{sym}
-use Rattle.exact.specs.Rounding.{up-code}
+use Rattle.exact.specs.Laws.Rounding.{up-code}
 use Rattle.formulas.specs.Constants.{piHigh}
 use Rattle.formulas.specs.Reactance.{reactance}
 use Prim.Native.Nat.{_*_}

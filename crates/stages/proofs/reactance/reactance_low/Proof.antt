@@ -1,7 +1,7 @@
 -- `stages::reactance::reactance_low` is the definition, as code rounds down.
 use borrow.Author.Needs.{needs}
 use mathlib.Core.Path.{sym}
-use Rattle.exact.specs.Rounding.{down-code}
+use Rattle.exact.specs.Laws.Rounding.{down-code}
 use Rattle.formulas.specs.Constants.{piLow}
 use Rattle.formulas.specs.Reactance.{reactanceLow}
 use Prim.Native.Nat.{_*_}

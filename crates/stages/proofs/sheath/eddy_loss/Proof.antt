@@ -4,7 +4,8 @@ use mathlib.Core.Path.{_∙_, ap, ap₂}
 use native.Mathlib.Omega.{arith}
 use native.Mathlib.Nat.{mul-le-mul, le-trans}
 use lib.Dec.{lit<, lit≤}
-use Rattle.exact.specs.Rounding.{up, up-least}
+use Rattle.exact.specs.Rounding.{up}
+use Rattle.exact.specs.Laws.Rounding.{up-least}
 use Rattle.formulas.specs.Constants.{tera}
 use Rattle.formulas.specs.Sheath.{eddyLoss}
 use Rattle.formulas.specs.Laws.Ranges.{eddyRatio-most, eddyRatioSquared-most, eddyFactor-most, eddySpacing-most}

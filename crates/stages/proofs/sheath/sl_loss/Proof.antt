@@ -2,7 +2,8 @@
 use borrow.Author.Needs.{needs}
 use mathlib.Core.Path.{_∙_, ap, sym}
 use native.Mathlib.Omega.{arith}
-use Rattle.exact.specs.Rounding.{up, up-code}
+use Rattle.exact.specs.Rounding.{up}
+use Rattle.exact.specs.Laws.Rounding.{up-code}
 use Rattle.formulas.specs.Sheath.{threeHalves, slLoss}
 use Rattle.formulas.specs.Laws.Ranges.{circulatingLoss-most}
 use Prim.Native.Nat.{_*_, _≤_}

@@ -3,7 +3,7 @@ use borrow.Author.Needs.{needs}
 use mathlib.Core.Path.{sym}
 use native.Mathlib.Omega.{arith}
 use native.Mathlib.Nat.{mul-le-mul}
-use Rattle.exact.specs.Rounding.{up-code}
+use Rattle.exact.specs.Laws.Rounding.{up-code}
 use Rattle.formulas.specs.Constants.{piHigh}
 use Rattle.formulas.specs.Skin.{skinReactance}
 use Prim.Native.Nat.{_*_}

@@ -2,10 +2,11 @@
 -- of two values is always written first, whichever of the two is the exact one. Assumes nothing.
 use Prim.Native.Nat.{ℕ}
 use Rattle.exact.specs.Fraction.{Fraction, _over_, _+F_, _*F_, _≤F_}
+use Rattle.exact.specs.Trillion.{trillion}
 
 -- r parts in 10^12
 unfoldable pub parts : ℕ → Fraction
-parts r = r over 1000000000000
+parts r = r over trillion
 
 pub record Within (r : ℕ) (c x y : Fraction) : Type 0 where
   pub below : x ≤F y

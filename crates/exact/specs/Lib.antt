@@ -2,6 +2,7 @@
 -- definitions stand here, and what follows from them under Laws. Assumes nothing.
 pub mod Rounding
 pub mod Fraction
+pub mod Trillion
 pub mod Error
 pub mod Root
 pub mod Laws

@@ -1,4 +1,7 @@
--- What document 01 says of its own definitions, proved of them. Assumes nothing.
+-- What follows from the definitions: closed values, ranges, what docs/RATING.md says of the logarithm and of the rating, and how
+-- close each rounded stage lies to its exact one. Assumes nothing.
+pub mod Edges
+pub mod Values
 pub mod Temperature
 pub mod Octaves
 pub mod Current

@@ -1,4 +1,4 @@
--- Document 01, stage 6: the logarithm of the spacing, and the sheath's reactance. Assumes nothing.
+-- docs/RATING.md, stage 6: the logarithm of the spacing, and the sheath's reactance. Assumes nothing.
 use mathlib.Core.Bool.{cond}
 use Prim.Native.Nat.{ℕ, _+_, _*_}
 use lib.Dec.{eqb}

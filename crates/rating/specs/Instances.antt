@@ -14,7 +14,7 @@ use Rattle.formulas.specs.Skin.{skinReactance, skinRatio, skinRatioSquared, fac
 use Rattle.formulas.specs.Proximity.{spacingRatio, proximityH, proximityG, proximityFactor, acResistance}
 use Rattle.formulas.specs.Spacing.{spacingLogHigh, spacingLogLow, sheathReactance, sheathReactanceLow}
 use Rattle.formulas.specs.Sheath.{bondRatio, bondRatioSquared, circulatingLoss, threeHalves, slLoss}
-use Rattle.formulas.specs.Armour.{armourRatio, armourRatioSquared, armourResistance, unscreenedLoss, screeningRatioSquared, screenedLoss, armourLoss}
+use Rattle.formulas.specs.Armour.{armourRatio, armourRatioSquared, reducedArmourResistance, unscreenedLoss, screeningRatioSquared, screenedLoss, armourLoss}
 use Rattle.formulas.specs.Dielectric.{dielectricLoss, dielectricResistance, dielectricRise, permittedRise, currentRise}
 use Rattle.formulas.specs.Rating.{unitRise, rating}
 use Rattle.formulas.specs.Refusals.{skinRefused, eddyRefused, dielectricRefused, currentRefused}
@@ -69,7 +69,7 @@ unfolding judged loaded rated screen arrangementHeld conductorHeld limitsHeld co
     metalTable temperatureFactor resistance reactance reactanceLow skinReactance skinRatio skinRatioSquared factor skinFactor spacingRatio
     proximityH proximityG proximityFactor acResistance logLow logHigh thirteenTerms series firstPower doubled octaves doublings
     spacingLogHigh spacingLogLow sheathReactance sheathReactanceLow bondRatio bondRatioSquared circulatingLoss threeHalves slLoss armourRatio
-    armourRatioSquared armourResistance unscreenedLoss screeningRatioSquared screenedLoss armourLoss dielectricLoss dielectricResistance
+    armourRatioSquared reducedArmourResistance unscreenedLoss screeningRatioSquared screenedLoss armourLoss dielectricLoss dielectricResistance
     dielectricRise permittedRise currentRise unitRise rating root piLow piHigh ln2Low ln2High tera up down
 answer = (ap (λ a. a .number) (rateOf-is cable), ap (λ a. a .rating) (rateOf-is cable))
 

@@ -83,7 +83,7 @@ module _ {x : List ℕ} (c : Chosen x) (p : Passed x) where
   e-pos : 0 < eOf x
   e-pos = omega (arith, e-least (fit .sound) (r-range (fit .sound) (fit .skin) (fit .proximity) .least))
 
-  rated-at : Law.Rated (eOf* x c) (ddOf* x c) (eOf x) (ddOf x) (currentRise (riseOf x) (ddOf x)) (permittedOf x) (currentOf x)
+  rated-at : Law.Stage10 (eOf* x c) (ddOf* x c) (eOf x) (ddOf x) (currentRise (riseOf x) (ddOf x)) (permittedOf x) (currentOf x)
   unfolding currentRefused currentOf currentRise permittedOf permittedRise riseOf
   rated-at =
       record {

@@ -3,8 +3,12 @@ ghost use mathlib.Core.Path.{_≡_};
 ghost use Prim.Native.Nat.{_*_, _≤_, _<_};
 ghost use Rattle.exact.specs.Rounding.{up, down};
 ghost use Rattle.formulas.specs.Logarithm.{octaves, doubled, thirteenTerms, logLow, logHigh};
+ghost use Rattle.formulas.specs.Bounds.{mostPower};
+use super::constants::LN2_HIGH;
+use super::constants::LN2_LOW;
 use wide::ratio::mul_div_down;
 use wide::ratio::mul_div_up;
+use wide::trillion::T;
 use wide::trillion::mul_div_down_trillion;
 use wide::trillion::mul_div_up_trillion;
 
@@ -29,7 +33,7 @@ fn octaves(a: u64, b: u64) -> Doubled
 
 // A power of 1 stays 1, and each term after the first is then 1.
 fn thirteen_terms_up(first: u64) -> u64
-    requires { ⌜ first ≤ 333333333334 ⌝ }
+    requires { ⌜ first ≤ mostPower ⌝ }
     ensures { λ r. ⌜ r ≡ thirteenTerms up first ⌝ }
 {
     let q = mul_div_up_trillion(first, first);
@@ -49,7 +53,7 @@ fn thirteen_terms_up(first: u64) -> u64
 
 // A power of 0 stays 0, and adds nothing.
 fn thirteen_terms_down(first: u64) -> u64
-    requires { ⌜ first ≤ 333333333334 ⌝ }
+    requires { ⌜ first ≤ mostPower ⌝ }
     ensures { λ r. ⌜ r ≡ thirteenTerms down first ⌝ }
 {
     let q = mul_div_down_trillion(first, first);
@@ -72,8 +76,8 @@ pub fn log_high(a: u64, b: u64) -> u64
     ensures { λ r. ⌜ r ≡ logHigh a b ⌝ }
 {
     let k = octaves(a, b);
-    let p = mul_div_up(a - k.doubled, 1000000000000, a + k.doubled);
-    thirteen_terms_up(p) + 1 + 693147180560 * k.count
+    let p = mul_div_up(a - k.doubled, T, a + k.doubled);
+    thirteen_terms_up(p) + 1 + LN2_HIGH * k.count
 }
 
 pub fn log_low(a: u64, b: u64) -> u64
@@ -81,6 +85,6 @@ pub fn log_low(a: u64, b: u64) -> u64
     ensures { λ r. ⌜ r ≡ logLow a b ⌝ }
 {
     let k = octaves(a, b);
-    let p = mul_div_down(a - k.doubled, 1000000000000, a + k.doubled);
-    thirteen_terms_down(p) + 693147180559 * k.count
+    let p = mul_div_down(a - k.doubled, T, a + k.doubled);
+    thirteen_terms_down(p) + LN2_LOW * k.count
 }

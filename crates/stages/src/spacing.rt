@@ -2,6 +2,9 @@
 ghost use mathlib.Core.Path.{_≡_};
 ghost use Prim.Native.Nat.{_*_, _≤_, _<_};
 ghost use Rattle.formulas.specs.Spacing.{spacingLogHigh, spacingLogLow, sheathReactance, sheathReactanceLow};
+ghost use Rattle.formulas.specs.Bounds.{mostReactance, mostSpacingLog};
+use super::constants::LN2_THIRD_HIGH;
+use super::constants::LN2_THIRD_LOW;
 use super::logarithm::log_high;
 use super::logarithm::log_low;
 use wide::trillion::mul_div_down_trillion;
@@ -13,7 +16,7 @@ pub fn spacing_log_high(arrangement: u32, s: u64, d: u64) -> u64
 {
     let log = log_high(2 * s, d);
     if arrangement == 2 {
-        return log + 231049060187;
+        return log + LN2_THIRD_HIGH;
     }
     log
 }
@@ -24,20 +27,20 @@ pub fn spacing_log_low(arrangement: u32, s: u64, d: u64) -> u64
 {
     let log = log_low(2 * s, d);
     if arrangement == 2 {
-        return log + 231049060186;
+        return log + LN2_THIRD_LOW;
     }
     log
 }
 
 pub fn sheath_reactance(b: u64, l: u64) -> u64
-    requires { ⌜ (b ≤ 816814089936) × (l ≤ 18601776254712) ⌝ }
+    requires { ⌜ (b ≤ mostReactance) × (l ≤ mostSpacingLog) ⌝ }
     ensures { λ r. ⌜ r ≡ sheathReactance b l ⌝ }
 {
     mul_div_up_trillion(b, l)
 }
 
 pub fn sheath_reactance_low(b: u64, l: u64) -> u64
-    requires { ⌜ (b ≤ 816814089936) × (l ≤ 18601776254712) ⌝ }
+    requires { ⌜ (b ≤ mostReactance) × (l ≤ mostSpacingLog) ⌝ }
     ensures { λ r. ⌜ r ≡ sheathReactanceLow b l ⌝ }
 {
     mul_div_down_trillion(b, l)

@@ -72,7 +72,7 @@ fn digit(u: u64, next: u64, v: u64) -> Divided
 }
 
 // Both numbers are shifted until the divisor has its top bit set: the quotient stays, and the rest is shifted too.
-fn long(hi: u64, lo: u64, c: u64) -> Divided
+fn long_division(hi: u64, lo: u64, c: u64) -> Divided
     requires { ⌜ hi < c ⌝ }
     ensures { λ r. ⌜ Split (hi * 2 ^ 64 + lo) c (r .quotient) (r .rest) ⌝ }
 {
@@ -99,7 +99,7 @@ pub fn divide(hi: u64, lo: u64, c: u64) -> Divided
             rest: lo % c,
         };
     }
-    long(hi, lo, c)
+    long_division(hi, lo, c)
 }
 
 // The quotient, and one more where something is left over.

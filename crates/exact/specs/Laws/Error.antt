@@ -24,13 +24,14 @@ use Rattle.exact.specs.Laws.Fraction.{
   over<down,
 }
 use Rattle.exact.specs.Error.{parts, Within}
+use Rattle.exact.specs.Trillion.{trillion}
 
 -- The excess that `Within` allows, r parts of y and c, and how it grows, adds up and is multiplied.
 
 excess-mono : {r s : ℕ} {c d y z : Fraction} → r ≤ s → c ≤F d → y ≤F z → parts r *F y +F c ≤F parts s *F z +F d
 unfolding parts
 excess-mono r≤s c≤d y≤z =
-    +F-mono (*F-mono (record { left = lit< tt; right = lit< tt; across = mul-le-mul-right 1000000000000 r≤s }) y≤z) c≤d
+    +F-mono (*F-mono (record { left = lit< tt; right = lit< tt; across = mul-le-mul-right trillion r≤s }) y≤z) c≤d
 
 excess-add :
     (r s : ℕ) (c d y : Fraction) → 0 < c .den → 0 < d .den → 0 < y .den →
@@ -64,7 +65,7 @@ swap x y z w = ap₂ _over_ (omega arith) (omega arith)
 rest-has-value : {r : ℕ} {c x y : Fraction} → Within r c x y → 0 < c .den
 unfolding parts _+F_ _*F_
 rest-has-value {r} {c} {x} {y} p =
-    lt-of-mul-lt-mul-left (x .den * (1000000000000 * y .den)) {m = 0} {n = c .den} (omega (arith, p .close .right))
+    lt-of-mul-lt-mul-left (x .den * (trillion * y .den)) {m = 0} {n = c .den} (omega (arith, p .close .right))
 
 -- How errors weaken and follow on one another.
 
@@ -281,12 +282,12 @@ pub within-scale : {r : ℕ} {x y : Fraction} (k : Fraction) → 0 < k .den → 
 within-scale {x = x} {y} k k>0 p =
     rw (*F-comm k x, *F-comm k y) (within-weaken (le-refl _) (zero-times k k>0) (within-times (≤F-refl k k>0) p))
 
-one-of : (s n : ℕ) → 1000000000000 ≤ s * n → whole 0 +F whole 1 ≤F parts s *F whole n
+one-of : (s n : ℕ) → trillion ≤ s * n → whole 0 +F whole 1 ≤F parts s *F whole n
 unfolding parts _+F_ _*F_
 one-of s n h = record { left = lit< tt; right = lit< tt; across = omega arith }
 
 pub within-round :
-    (s : ℕ) {r a b : ℕ} {x : Fraction} → 0 < b → 1000000000000 ≤ s * up a b → Within r (whole 0) x (a over b) →
+    (s : ℕ) {r a b : ℕ} {x : Fraction} → 0 < b → trillion ≤ s * up a b → Within r (whole 0) x (a over b) →
     Within (r + s) (whole 0) x (whole (up a b))
 within-round s {r} {a} {b} b>0 large p =
     within-weaken (omega arith) (≤F-refl (whole 0) (lit< tt))
@@ -314,11 +315,11 @@ within-relative-reciprocal {x = x} {y} x≠0 p =
     (zero-times (reciprocal (x *F y)) (mul-pos x≠0 (reciprocal-anti x≠0 (p .below) .left)))
     (within-reciprocal x≠0 p)
 
-one-of-over : (s a b : ℕ) → 0 < b → 1000000000000 * b ≤ s * a → whole 1 ≤F parts s *F (a over b)
+one-of-over : (s a b : ℕ) → 0 < b → trillion * b ≤ s * a → whole 1 ≤F parts s *F (a over b)
 unfolding parts _*F_
 one-of-over s a b b>0 h = record { left = lit< tt; right = omega arith; across = omega arith }
 
-pub within-round-down : (s a : ℕ) {b : ℕ} → 0 < b → 1000000000000 * b ≤ s * a → Within s (whole 0) (whole (down a b)) (a over b)
+pub within-round-down : (s a : ℕ) {b : ℕ} → 0 < b → trillion * b ≤ s * a → Within s (whole 0) (whole (down a b)) (a over b)
 within-round-down s a {b} b>0 large =
     within-weaken (omega arith) (≤F-refl (whole 0) (lit< tt)) (within-absorb s (one-of-over s a b b>0 large) (within-down a b>0))
 
@@ -345,14 +346,14 @@ within-up-over {r} {a} {b} {t} {c} b>0 t>0 p =
     let together = within-trans p (up-over a b>0 t>0) in
     within-weaken (omega arith) (≤F-refl (c +F (1 over t)) (rest-has-value together)) together
 
-one-over : (s n : ℕ) {t : ℕ} → 0 < t → 1000000000000 ≤ s * n → whole 0 +F (1 over t) ≤F parts s *F (n over t)
+one-over : (s n : ℕ) {t : ℕ} → 0 < t → trillion ≤ s * n → whole 0 +F (1 over t) ≤F parts s *F (n over t)
 unfolding parts _+F_ _*F_
 one-over s n {t} t>0 h =
     record { left = omega arith; right = omega arith; across = omega (arith, mul-le-mul-right (t * t) h, mul-le-mul-right t h) }
 
 -- the same as a relative error, where the rounded value is at least 10^12/s
 pub within-round-over :
-    (s : ℕ) {r a b t : ℕ} {x : Fraction} → 0 < b → 0 < t → 1000000000000 ≤ s * up a b → Within r (whole 0) x (a over b * t) →
+    (s : ℕ) {r a b t : ℕ} {x : Fraction} → 0 < b → 0 < t → trillion ≤ s * up a b → Within r (whole 0) x (a over b * t) →
     Within (r + s) (whole 0) x (up a b over t)
 within-round-over s {a = a} {b} b>0 t>0 large p =
     within-absorb s (one-over s (up a b) t>0 large) (within-up-over b>0 t>0 p)

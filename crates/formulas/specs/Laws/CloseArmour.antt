@@ -24,23 +24,25 @@ use Rattle.exact.specs.Laws.Error.{
   within-relative-product,
   within-relative-reciprocal,
 }
+use Rattle.exact.specs.Trillion.{trillion}
 use Rattle.formulas.specs.Constants.{tera, piLow, IsPi}
 use Rattle.formulas.specs.Reactance.{reactance, reactance*}
 use Rattle.formulas.specs.Armour.{
   armourRatio,
   armourRatioSquared,
-  armourResistance,
+  reducedArmourResistance,
   unscreenedLoss,
   screeningRatioSquared,
   screenedLoss,
   armourLoss,
   armourRatio*,
-  armourResistance*,
+  reducedArmourResistance*,
   unscreenedLoss*,
   armourLoss*,
 }
-use Rattle.formulas.specs.Laws.Ranges.{In, reactance-range, armourResistance-most, unscreenedLoss-most}
+use Rattle.formulas.specs.Laws.Ranges.{In, reactance-range, reducedArmourResistance-most, unscreenedLoss-most}
 use Rattle.formulas.specs.Laws.CloseReactance.{reactance-close}
+use Rattle.formulas.specs.Bounds.{leastSheathResistance, mostResistance, leastSheathReactanceLow, mostArmourLoss}
 
 -- The square of a ratio over T, rounded down, and 1 more, over T.
 
@@ -93,12 +95,12 @@ reactance*-pos {π} {f} p range =
     mul-pos (omega (arith, range .least)) π≠0
 
 pub ratio-close :
-    {π : Fraction} {f ra : ℕ} → IsPi π → In 1000 6500 f → In 7300000000 407000000000000 ra →
+    {π : Fraction} {f ra : ℕ} → IsPi π → In 1000 6500 f → In leastSheathResistance mostResistance ra →
     Within 245 (whole 0) (armourRatio ra (reactance f) over tera) (armourRatio* ra (reactance* π f))
 unfolding armourRatio armourRatio* tera _+F_ _*F_ reciprocal
 ratio-close {π} {f} {ra} pi range ra-in =
     let b>0 : 0 < reactance f = omega (arith, reactance-range range .least) in
-    let large : 1000000000000 * reactance f ≤ 205 * (554 * 10 ^ 9 * ra) = omega (arith, reactance-range range .most, ra-in .least) in
+    let large : trillion * reactance f ≤ 205 * (554 * 10 ^ 9 * ra) = omega (arith, reactance-range range .most, ra-in .least) in
     let rounded = tera-th 205 (within-round-down 205 (554 * 10 ^ 9 * ra) b>0 large) in
     let exact =
     within-scale ((554 over 1000) *F whole ra) (lit< tt)
@@ -111,9 +113,9 @@ ratio-close {π} {f} {ra} pi range ra-in =
     (within-trans (within-same (≃F-refl _ (lit< tt)) same rounded) exact)
 
 pub resistance-close :
-    {π : Fraction} {f ra : ℕ} → IsPi π → In 1000 6500 f → In 7300000000 407000000000000 ra →
-    Within 491 (whole 1) (armourResistance* ra (reactance* π f)) (whole (armourResistance ra (reactance f)))
-unfolding armourResistance armourResistance* armourRatioSquared tera _+F_ _*F_
+    {π : Fraction} {f ra : ℕ} → IsPi π → In 1000 6500 f → In leastSheathResistance mostResistance ra →
+    Within 491 (whole 1) (reducedArmourResistance* ra (reactance* π f)) (whole (reducedArmourResistance ra (reactance f)))
+unfolding reducedArmourResistance reducedArmourResistance* armourRatioSquared tera _+F_ _*F_
 resistance-close {π} {f} {ra} pi range ra-in =
     let y = armourRatio ra (reactance f) in
     let scaled = within-scale (whole ra) (lit< tt) (inverse-close 245 y (ratio-close pi range ra-in)) in
@@ -138,20 +140,20 @@ spacing-most : (c : ℕ) {dA : ℕ} → 0 < dA → 2 * c ≤ dA → 4 * (c * c) 
 spacing-most c dA>0 c≤ = record { left = mul-pos dA>0 dA>0; right = lit< tt; across = omega (arith, mul-le-mul c≤ c≤) }
 
 pub unscreened-close :
-    (c : ℕ) {π : Fraction} {f ra dA : ℕ} → IsPi π → In 1000 6500 f → In 7300000000 407000000000000 ra → 0 < dA → 2 * c ≤ dA →
+    (c : ℕ) {π : Fraction} {f ra dA : ℕ} → IsPi π → In 1000 6500 f → In leastSheathResistance mostResistance ra → 0 < dA → 2 * c ≤ dA →
     Within 491 (whole 503) (unscreenedLoss* ra (reactance* π f) c dA) (whole (unscreenedLoss ra (reactance f) c dA))
 unfolding unscreenedLoss unscreenedLoss* tera _+F_ _*F_
 unscreened-close c {π} {f} {ra} {dA} pi range ra-in dA>0 c≤ =
-    let r = armourResistance ra (reactance f) in
+    let r = reducedArmourResistance ra (reactance f) in
     let s = up (4 * (c * c) * 10 ^ 12) (dA * dA) in
-    let r≤ : whole r *F (123 over 100) ≤F whole 500610000000000 =
-    record { left = lit< tt; right = lit< tt; across = omega (arith, armourResistance-most ra (reactance f), ra-in .most) }
+    let r≤ : whole r *F (123 over 100) ≤F whole mostArmourLoss =
+    record { left = lit< tt; right = lit< tt; across = omega (arith, reducedArmourResistance-most ra (reactance f), ra-in .most) }
     in
     let first = within-times (≤F-refl (123 over 100) (lit< tt)) (resistance-close pi range ra-in) in
     let both = within-product (spacing-most c dA>0 c≤) r≤ first (spacing-close c dA>0) in
     let lower :
-    armourResistance* ra (reactance* π f) *F (123 over 100) *F (4 * (c * c) over dA * dA) ≃F
-    (123 over 100) *F armourResistance* ra (reactance* π f) *F (4 * (c * c) over dA * dA) =
+    reducedArmourResistance* ra (reactance* π f) *F (123 over 100) *F (4 * (c * c) over dA * dA) ≃F
+    (123 over 100) *F reducedArmourResistance* ra (reactance* π f) *F (4 * (c * c) over dA * dA) =
     record { left = both .below .left; right = omega (arith, both .below .left); across = omega arith }
     in
     let upper : whole r *F (123 over 100) *F (s over 10 ^ 12) ≃F 123 * r * s over 10 ^ 14 =
@@ -163,12 +165,12 @@ unscreened-close c {π} {f} {ra} {dA} pi range ra-in dA>0 c≤ =
 -- The screening.
 
 pub screening-ratio-close :
-    {x rs : ℕ} {x* : Fraction} → 80000000000 ≤ x → In 7300000000 407000000000000 rs → Within 6000 (whole 1) (whole x) x* →
+    {x rs : ℕ} {x* : Fraction} → leastSheathReactanceLow ≤ x → In leastSheathResistance mostResistance rs → Within 6000 (whole 1) (whole x) x* →
     Within 11101 (whole 0) (down (x * tera) rs over tera) (x* /F whole rs)
 unfolding tera parts _+F_ _*F_ reciprocal
 screening-ratio-close {x} {rs} {x*} x≥ rs-in p =
     let rs>0 : 0 < rs = omega (arith, rs-in .least) in
-    let large : 1000000000000 * rs ≤ 5088 * (x * 10 ^ 12) = omega (arith, rs-in .most) in
+    let large : trillion * rs ≤ 5088 * (x * 10 ^ 12) = omega (arith, rs-in .most) in
     let unit : whole 1 ≤F parts 13 *F x* =
     ≤F-trans {y = parts 13 *F whole x}
     (record { left = lit< tt; right = lit< tt; across = omega arith })
@@ -186,7 +188,7 @@ screening-ratio-close {x} {rs} {x*} x≥ rs-in p =
     (within-trans (within-same (≃F-refl _ (lit< tt)) same rounded) (within-same (≃F-refl _ (exact .below .left)) turned exact))
 
 pub screening-close :
-    {x rs : ℕ} {x* : Fraction} → 80000000000 ≤ x → In 7300000000 407000000000000 rs → Within 6000 (whole 1) (whole x) x* →
+    {x rs : ℕ} {x* : Fraction} → leastSheathReactanceLow ≤ x → In leastSheathResistance mostResistance rs → Within 6000 (whole 1) (whole x) x* →
     Within 22203 (1 over tera)
     (reciprocal (whole 1 +F square (x* /F whole rs)))
     (up (tera * tera) (tera + screeningRatioSquared x rs) over tera)
@@ -212,14 +214,14 @@ screening-most x x>0 = record { left = omega (arith, mul-pos x>0 x>0); right = l
 -- The loss itself.
 
 pub armour-close :
-    (c : ℕ) {π x* : Fraction} {f ra dA x rs : ℕ} → IsPi π → In 1000 6500 f → In 7300000000 407000000000000 ra → 0 < dA →
-    2 * c ≤ dA → 80000000000 ≤ x → In 7300000000 407000000000000 rs → Within 6000 (whole 1) (whole x) x* →
+    (c : ℕ) {π x* : Fraction} {f ra dA x rs : ℕ} → IsPi π → In 1000 6500 f → In leastSheathResistance mostResistance ra → 0 < dA →
+    2 * c ≤ dA → leastSheathReactanceLow ≤ x → In leastSheathResistance mostResistance rs → Within 6000 (whole 1) (whole x) x* →
     Within 22694 (whole 1005) (armourLoss* ra (reactance* π f) c dA x* rs) (whole (armourLoss ra (reactance f) c dA x rs))
 unfolding armourLoss armourLoss* screenedLoss tera _+F_ _*F_
 armour-close c {π} {x*} {f} {ra} {dA} {x} {rs} pi range ra-in dA>0 c≤ x≥ rs-in p =
     let w = unscreenedLoss ra (reactance f) c dA in
     let s = up (10 ^ 12 * 10 ^ 12) (10 ^ 12 + screeningRatioSquared x rs) in
-    let w≤ : whole w ≤F whole 500610000000000 =
+    let w≤ : whole w ≤F whole mostArmourLoss =
     record { left = lit< tt; right = lit< tt; across = omega (arith, unscreenedLoss-most (reactance f) c (ra-in .most) dA>0 c≤) }
     in
     let ratio>0 : 0 < (x* /F whole rs) .den = screening-ratio-close x≥ rs-in p .below .right in

@@ -20,6 +20,7 @@ use Rattle.exact.specs.Laws.Error.{
   within-scale,
   within-round,
 }
+use Rattle.exact.specs.Trillion.{trillion}
 use Rattle.formulas.specs.Constants.{tera, piHigh, IsPi}
 use Rattle.formulas.specs.Skin.{
   skinReactance,
@@ -35,6 +36,7 @@ use Rattle.formulas.specs.Skin.{
 use Rattle.formulas.specs.Laws.Ranges.{In}
 use Rattle.formulas.specs.Laws.CloseReactance.{pi-within}
 use Rattle.formulas.specs.Laws.LogRange.{tera>0}
+use Rattle.formulas.specs.Refusals.{skinLimit}
 
 -- Values over T.
 
@@ -42,7 +44,7 @@ use Rattle.formulas.specs.Laws.LogRange.{tera>0}
 abbrev pub Close : ℕ → ℕ → Fraction → ℕ → Type 0
 Close r c x n = Within r (c over tera) x (n over tera)
 
-pub at-most : {n : ℕ} (m : ℕ) → n ≤ m * 1000000000000 → n over tera ≤F whole m
+pub at-most : {n : ℕ} (m : ℕ) → n ≤ m * trillion → n over tera ≤F whole m
 unfolding tera
 at-most m n≤ = record { left = lit< tt; right = lit< tt; across = omega arith }
 
@@ -105,7 +107,7 @@ skinRatio-close {π} {f} {k} {r'} p f-range k-range r'>0 =
     (rewrite-above same (zero≤ (reciprocal (whole r')) r'>0) (within-times per (skinReactance-close p f-range k-range)))
 
 pub skinRatioSquared-close :
-    {x : Fraction} {z : ℕ} → z ≤ 7840000000000 → Close 66 1 x z → Close 132 17 (square x) (skinRatioSquared z)
+    {x : Fraction} {z : ℕ} → z ≤ skinLimit → Close 66 1 x z → Close 132 17 (square x) (skinRatioSquared z)
 unfolding skinRatioSquared _+F_ _*F_
 skinRatioSquared-close {x} {z} z≤ p =
     let z≤8 : z over tera ≤F whole 8 = at-most 8 (omega arith) in
@@ -145,7 +147,7 @@ unfolding factor factor*
 factor-close {w = w} p = round-up (omega (arith, tera>0)) (saturate-times 5 960 4 {d = 1} (lit< tt) (lit≤ tt) p)
 
 pub skinFactor-close :
-    {π : Fraction} {f k r' : ℕ} → IsPi π → In 1000 6500 f → In 120 1000 k → 0 < r' → skinRatio f k r' ≤ 7840000000000 →
+    {π : Fraction} {f k r' : ℕ} → IsPi π → In 1000 6500 f → In 120 1000 k → 0 < r' → skinRatio f k r' ≤ skinLimit →
     Close 132 2 (skinFactor* π f k r') (skinFactor f k r')
 unfolding skinFactor skinFactor*
 skinFactor-close p f-range k-range r'>0 z≤ =

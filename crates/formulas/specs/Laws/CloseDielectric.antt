@@ -24,10 +24,11 @@ use Rattle.formulas.specs.Laws.Ranges.{In, dielectricResistance-most}
 use Rattle.formulas.specs.Laws.LogRange.{logLow-least}
 use Rattle.formulas.specs.Laws.LogEndsGap.{log-gap}
 use Rattle.formulas.specs.Laws.CloseReactance.{reactance-close}
+use Rattle.formulas.specs.Bounds.{leastInsulationLog}
 
 -- what lies between two ends that are 100 T-ths apart is close to the lower one
 end-close :
-    {l h : ℕ} {log : Fraction} → 48780487804 ≤ l → h ≤ l + 100 → l over tera ≤F log → log ≤F h over tera →
+    {l h : ℕ} {log : Fraction} → leastInsulationLog ≤ l → h ≤ l + 100 → l over tera ≤F log → log ≤F h over tera →
     Within 2100 (whole 0) (l over tera) log
 unfolding tera parts _+F_ _*F_
 end-close {l} {h} l≥ h≤ above below =

@@ -34,7 +34,7 @@ use Rattle.formulas.specs.Sheath.{bondRatio, bondRatioSquared, circulati
 use Rattle.formulas.specs.Armour.{
   armourRatio,
   armourRatioSquared,
-  armourResistance,
+  reducedArmourResistance,
   unscreenedLoss,
   screeningRatioSquared,
   screenedLoss,
@@ -53,7 +53,8 @@ use Rattle.formulas.specs.Laws.CloseScreening.{sheathReactanceLow-close,
 use Rattle.formulas.specs.Laws.CloseArmour.{armour-close}
 use Rattle.formulas.specs.Laws.CloseDielectric.{loss-close, dielectric-close}
 use Rattle.formulas.specs.Laws.CloseUnitRise.{unitRise-close}
-use Rattle.formulas.specs.Laws.CloseRise.{Rated, rise-safe, rise-above}
+use Rattle.formulas.specs.Laws.CloseRise.{Stage10, rise-safe, rise-above}
+use Rattle.formulas.specs.Bounds.{leastConductorResistance, leastSheathResistance, mostResistance, leastSheathReactance}
 
 -- What stands for pi, ln 2, and the logarithms of 2s/d = 84/40 and Di/ds = 36/17.5.
 
@@ -106,13 +107,13 @@ frequency = record { least = lit≤ tt; most = lit≤ tt }
 
 -- R', Rs and RA
 
-conductor : In 36500000000 407000000000000 1556758000000
+conductor : In leastConductorResistance mostResistance 1556758000000
 conductor = record { least = lit≤ tt; most = lit≤ tt }
 
-sheath : In 7300000000 407000000000000 11600000000000
+sheath : In leastSheathResistance mostResistance 11600000000000
 sheath = record { least = lit≤ tt; most = lit≤ tt }
 
-armour : In 7300000000 407000000000000 2893750000000
+armour : In leastSheathResistance mostResistance 2893750000000
 armour = record { least = lit≤ tt; most = lit≤ tt }
 
 skin : In 120 1000 1000
@@ -142,7 +143,7 @@ x* = sheathReactance* (reactance* π 5000) (spacingLog* 5 log-spacing ln2)
 x-close : Within 200 (whole 0) x* (whole x)
 x-close = sheathReactance-close 5 is-pi is-ln2 frequency is-log-spacing (lit< tt) (lit≤ tt) (lit< tt)
 
-x-least : 87000000000 ≤ x
+x-least : leastSheathReactance ≤ x
 x-least = sheathReactance-least (reactance-range frequency .least) (spacingLogHigh-least 5 (lit< tt) (lit≤ tt))
 
 circulating : Within 9800 (whole 408) (circulatingLoss* x* 11600000000000) (whole (circulatingLoss x 11600000000000))
@@ -193,7 +194,7 @@ e = unitRise 3 r (slLoss x 11600000000000) w 350000 40000 60000 450000
 abbrev e* : Fraction
 e* = unitRise* 3 r* (slLoss* x* 11600000000000) w* 350000 40000 60000 450000
 
-r-least : 36500000000 ≤ r
+r-least : leastConductorResistance ≤ r
 unfolding acResistance skinFactor factor skinRatioSquared skinRatio skinReactance proximityFactor proximityG proximityH spacingRatio piHigh tera up
 r-least = lit≤ tt
 
@@ -210,11 +211,11 @@ unfolding dielectricRise dielectricResistance dielectricLoss reactance logLow th
 dd-share = lit≤ tt
 
 carries : IsRating (70000000000 - dd) e 457106
-unfolding unitRise acResistance skinFactor factor skinRatioSquared skinRatio skinReactance proximityFactor proximityG proximityH spacingRatio slLoss threeHalves circulatingLoss bondRatioSquared bondRatio sheathReactance sheathReactanceLow spacingLogHigh spacingLogLow armourLoss screenedLoss screeningRatioSquared unscreenedLoss armourResistance armourRatioSquared armourRatio dielectricRise dielectricResistance dielectricLoss reactance reactanceLow logLow logHigh thirteenTerms series firstPower doubled octaves doublings ln2Low ln2High piLow piHigh tera up down
+unfolding unitRise acResistance skinFactor factor skinRatioSquared skinRatio skinReactance proximityFactor proximityG proximityH spacingRatio slLoss threeHalves circulatingLoss bondRatioSquared bondRatio sheathReactance sheathReactanceLow spacingLogHigh spacingLogLow armourLoss screenedLoss screeningRatioSquared unscreenedLoss reducedArmourResistance armourRatioSquared armourRatio dielectricRise dielectricResistance dielectricLoss reactance reactanceLow logLow logHigh thirteenTerms series firstPower doubled octaves doublings ln2Low ln2High piLow piHigh tera up down
 carries = record { carried = lit≤ tt; no-more = lit< tt }
 
 -- The permitted rise is 70 K.
-rated : Rated e* dd* e dd (70000000000 - dd) 70000000000 457106
+rated : Stage10 e* dd* e dd (70000000000 - dd) 70000000000 457106
 rated =
     record {
       e-close = e-close;

@@ -18,6 +18,7 @@ use Rattle.exact.specs.Laws.Error.{
   within-scale,
   within-round,
 }
+use Rattle.exact.specs.Trillion.{trillion}
 use Rattle.formulas.specs.Constants.{tera, IsPi}
 use Rattle.formulas.specs.Skin.{skinRatio, skinFactor, skinFactor*}
 use Rattle.formulas.specs.Proximity.{
@@ -44,6 +45,8 @@ use Rattle.formulas.specs.Laws.Ranges.{
 }
 use Rattle.formulas.specs.Laws.CloseConductor.{Close, rewrite-above, round-up, at-most, saturate-times, skinFactor-close}
 use Rattle.formulas.specs.Laws.LogRange.{tera>0}
+use Rattle.formulas.specs.Bounds.{leastConductorResistance, mostResistance, mostSkinFactor, mostProximityFactor}
+use Rattle.formulas.specs.Refusals.{skinLimit}
 
 -- Sums of values over T, and products of values that are at most 1.
 
@@ -59,7 +62,7 @@ sum-close {c = c} {d} {n} {m} p q =
     rewrite-above same errors (within-sum p q)
 
 product-close :
-    {r s c d n m : ℕ} {x y : Fraction} → n ≤ 1000000000000 → m ≤ 1000000000000 → Close r c x n → Close s d y m →
+    {r s c d n m : ℕ} {x y : Fraction} → n ≤ trillion → m ≤ trillion → Close r c x n → Close s d y m →
     Within (r + s) (c + d over tera) (x *F y) (n * m over tera * tera)
 unfolding _+F_ _*F_
 product-close {c = c} {d} {n} {m} n≤ m≤ p q =
@@ -96,7 +99,7 @@ proximityH-close {x} {g} p =
     (round-up bottom>0 (rewrite-above same (≤F-refl _ tera>0) (saturate-times 118 27 100 {d = 9} (lit< tt) (lit≤ tt) p)))
 
 pub proximityG-close :
-    {x y : Fraction} {u g : ℕ} → u ≤ 1000000000000 → g ≤ 254900000000 → Close 0 1 x u → Close 132 2 y g →
+    {x y : Fraction} {u g : ℕ} → u ≤ trillion → g ≤ mostSkinFactor → Close 0 1 x u → Close 132 2 y g →
     Close 132 4 (proximityG* x y) (proximityG u g)
 unfolding proximityG proximityG* tera _*F_
 proximityG-close {x} {y} {u} {g} u≤ g≤ p q =
@@ -112,11 +115,11 @@ proximityG-close {x} {y} {u} {g} u≤ g≤ p q =
     round-up {c = 3} (lit< tt) (rw (*F-assoc k x y, *F-comm k (x *F y)) scaled)
 
 pub proximityFactor-close :
-    {x y : Fraction} {u g : ℕ} → u ≤ 1000000000000 → g ≤ 254900000000 → Close 0 1 x u → Close 132 2 y g →
+    {x y : Fraction} {u g : ℕ} → u ≤ trillion → g ≤ mostSkinFactor → Close 0 1 x u → Close 132 2 y g →
     Close 132 16 (proximityFactor* x y) (proximityFactor u g)
 unfolding proximityFactor proximityFactor*
 proximityFactor-close {u = u} {g} u≤ g≤ p q =
-    let sum≤ : proximityG u g + proximityH g ≤ 1000000000000 = omega (arith, proximityG-most u≤ g≤, proximityH-most g≤) in
+    let sum≤ : proximityG u g + proximityH g ≤ trillion = omega (arith, proximityG-most u≤ g≤, proximityH-most g≤) in
     round-up tera>0 (product-close u≤ sum≤ p (sum-close (proximityG-close u≤ g≤ p q) (proximityH-close q)))
 
 -- The a.c. resistance.
@@ -131,10 +134,10 @@ units-absorb : {r c n : ℕ} {x : Fraction} → tera ≤ n → Close r c x n →
 unfolding tera parts _*F_
 units-absorb {c = c} {n} n≥ p =
     within-absorb c
-    (record { left = lit< tt; right = lit< tt; across = omega (arith, mul-le-mul-right (c * 1000000000000) n≥) }) p
+    (record { left = lit< tt; right = lit< tt; across = omega (arith, mul-le-mul-right (c * trillion) n≥) }) p
 
 pub acResistance-close :
-    {r' ys yp : ℕ} {x y : Fraction} → In 36500000000 407000000000000 r' → ys ≤ 254900000000 → yp ≤ 680000000000 →
+    {r' ys yp : ℕ} {x y : Fraction} → In leastConductorResistance mostResistance r' → ys ≤ mostSkinFactor → yp ≤ mostProximityFactor →
     Close 132 2 x ys → Close 132 16 y yp → Within 178 (whole 0) (acResistance* r' x y) (whole (acResistance r' ys yp))
 unfolding acResistance acResistance* _*F_
 acResistance-close {r'} {ys} {yp} r'-range ys≤ yp≤ p q =
@@ -150,15 +153,15 @@ acResistance-close {r'} {ys} {yp} r'-range ys≤ yp≤ p q =
 
 -- The limit on z bounds ys and G, and the errors of all steps come together.
 
-skinFactor-most : (f k r' : ℕ) → skinRatio f k r' ≤ 7840000000000 → skinFactor f k r' ≤ 254900000000
+skinFactor-most : (f k r' : ℕ) → skinRatio f k r' ≤ skinLimit → skinFactor f k r' ≤ mostSkinFactor
 unfolding skinFactor
 skinFactor-most f k r' z≤ = factor-most (skinRatioSquared-most z≤)
 
 module _
     {π : Fraction} {f ks kp r' dc s : ℕ}
     (p : IsPi π) (f-range : In 1000 6500 f) (ks-range : In 120 1000 ks) (kp-range : In 120 1000 kp)
-    (r'-range : In 36500000000 407000000000000 r')
-    (zs≤ : skinRatio f ks r' ≤ 7840000000000) (zp≤ : skinRatio f kp r' ≤ 7840000000000)
+    (r'-range : In leastConductorResistance mostResistance r')
+    (zs≤ : skinRatio f ks r' ≤ skinLimit) (zp≤ : skinRatio f kp r' ≤ skinLimit)
     (s>0 : 0 < s) (dc≤s : dc ≤ s) where
   r'>0 : 0 < r'
   r'>0 = omega (arith, r'-range .least)

@@ -19,6 +19,7 @@ use Rattle.exact.specs.Laws.Error.{
   within-round-down,
   within-relative-product,
 }
+use Rattle.exact.specs.Trillion.{trillion}
 use Rattle.formulas.specs.Constants.{tera, piLow, piHigh, ln2Low, ln2High, ln2ThirdLow, Between, IsPi, IsLn2}
 use Rattle.formulas.specs.Reactance.{reactanceLow, reactance*}
 use Rattle.formulas.specs.Logarithm.{logLow, logHigh, IsLog}
@@ -27,10 +28,11 @@ use Rattle.formulas.specs.Laws.LogEndsGap.{log-gap}
 use Rattle.formulas.specs.Laws.Ranges.{In}
 use Rattle.formulas.specs.Laws.CloseSpacing.{octaves-least, zero-and-zero}
 use Rattle.formulas.specs.Laws.LogRange.{tera>0}
+use Rattle.formulas.specs.Bounds.{leastSheathReactanceLow}
 
 -- what lies between two ends is close to the lower one when the ends are
 between-above :
-    (r low high den : ℕ) {x : Fraction} → 0 < den → high * 1000000000000 ≤ low * 1000000000000 + r * low →
+    (r low high den : ℕ) {x : Fraction} → 0 < den → high * trillion ≤ low * trillion + r * low →
     Between low high den x → Within r (whole 0) (low over den) x
 unfolding parts _+F_ _*F_
 between-above r low high den {x} den>0 near p =
@@ -115,7 +117,7 @@ reactanceLow-least f≥ = down-most _ _ (lit< tt) (omega arith)
 -- what the screening divides is not small
 pub sheathReactanceLow-least :
     (arrangement : ℕ) {f s d : ℕ} → 1000 ≤ f → 0 < d → d ≤ s →
-    80000000000 ≤ sheathReactanceLow (reactanceLow f) (spacingLogLow arrangement s d)
+    leastSheathReactanceLow ≤ sheathReactanceLow (reactanceLow f) (spacingLogLow arrangement s d)
 unfolding sheathReactanceLow tera up down
 sheathReactanceLow-least arrangement f≥ d>0 d≤s =
     omega (arith, mul-le-mul (reactanceLow-least f≥) (spacingLogLow-least arrangement d>0 d≤s))

@@ -10,6 +10,7 @@ use Rattle.exact.specs.Fraction.{Fraction, _over_, whole, _+F_, _*F_, reciproca
 use Rattle.exact.specs.Laws.Fraction.{closed≤, ≃F-refl, ≤F-refl, ≤F-trans, +F-mono}
 use Rattle.exact.specs.Error.{parts, Within}
 use Rattle.exact.specs.Laws.Error.{within-weaken, within-sum, within-scale, within-relative-product, within-round, within-same}
+use Rattle.exact.specs.Trillion.{trillion}
 use Rattle.formulas.specs.Constants.{tera, ln2Low, ln2High, ln2ThirdHigh, Between, IsPi, IsLn2}
 use Rattle.formulas.specs.Reactance.{reactance, reactance*}
 use Rattle.formulas.specs.Logarithm.{octaves, logLow, logHigh, IsLog}
@@ -19,10 +20,11 @@ use Rattle.formulas.specs.Laws.LogEndsGap.{log-gap}
 use Rattle.formulas.specs.Laws.Ranges.{In, reactance-range}
 use Rattle.formulas.specs.Laws.CloseReactance.{reactance-close}
 use Rattle.formulas.specs.Laws.LogRange.{tera>0}
+use Rattle.formulas.specs.Bounds.{leastReactance, leastSpacingLog, leastSheathReactance}
 
 -- what lies between two ends is close to the upper one when the ends are
 between-close :
-    (r low high den : ℕ) {x : Fraction} → 0 < den → high * 1000000000000 ≤ low * 1000000000000 + r * high →
+    (r low high den : ℕ) {x : Fraction} → 0 < den → high * trillion ≤ low * trillion + r * high →
     Between low high den x → Within r (whole 0) x (high over den)
 unfolding parts _+F_ _*F_
 between-close r low high den den>0 near p =
@@ -46,11 +48,11 @@ octaves-least a b b>0 h = go (octaves a b) (octaves-largest a b b>0 (omega arith
     go zero none = omega (arith, none .above)
     go (suc k) some = omega arith
 
-logHigh-least : (a b : ℕ) → 0 < b → 2 * b ≤ a → 693147180560 ≤ logHigh a b
+logHigh-least : (a b : ℕ) → 0 < b → 2 * b ≤ a → leastSpacingLog ≤ logHigh a b
 unfolding logHigh ln2High
 logHigh-least a b b>0 h = omega (arith, octaves-least a b b>0 h)
 
-pub spacingLogHigh-least : (arrangement : ℕ) {s d : ℕ} → 0 < d → d ≤ s → 693147180560 ≤ spacingLogHigh arrangement s d
+pub spacingLogHigh-least : (arrangement : ℕ) {s d : ℕ} → 0 < d → d ≤ s → leastSpacingLog ≤ spacingLogHigh arrangement s d
 unfolding spacingLogHigh
 spacingLogHigh-least arrangement {s} {d} d>0 d≤s =
     le-trans (logHigh-least (2 * s) d d>0 (omega arith)) (le-add-right (logHigh (2 * s) d) _)
@@ -104,12 +106,12 @@ spacingLog-close arrangement two p d>0 d≤s <d =
     with-third (eqb arrangement 2) (log-close d>0 d≤s <d p) (third-close two)
 
 -- what stage 7 divides is not small
-pub sheathReactance-least : {b l : ℕ} → 125663706144 ≤ b → 693147180560 ≤ l → 87000000000 ≤ sheathReactance b l
+pub sheathReactance-least : {b l : ℕ} → leastReactance ≤ b → leastSpacingLog ≤ l → leastSheathReactance ≤ sheathReactance b l
 unfolding sheathReactance tera
 sheathReactance-least b≥ l≥ = up-least-below _ _ (lit< tt) (omega (arith, mul-le-mul b≥ l≥))
 
 product-close :
-    {r s b l : ℕ} {b* l* : Fraction} → 125663706144 ≤ b → 693147180560 ≤ l → Within r (whole 0) b* (whole b) →
+    {r s b l : ℕ} {b* l* : Fraction} → leastReactance ≤ b → leastSpacingLog ≤ l → Within r (whole 0) b* (whole b) →
     Within s (whole 0) l* (l over tera) →
     Within (r + s + 12) (whole 0) (sheathReactance* b* l*) (whole (sheathReactance b l))
 unfolding sheathReactance sheathReactance* _*F_

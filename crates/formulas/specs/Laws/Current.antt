@@ -1,4 +1,4 @@
--- Stage 10's rating is what document 01 says it is: the largest I with I² E ≤ 10^13 N. Assumes nothing.
+-- Stage 10's rating is what docs/RATING.md says it is: the largest I with I² E ≤ 10^13 N. Assumes nothing.
 use Prim.Native.Nat.{ℕ, _+_, _*_, _^_, _≤_, _<_}
 use native.Mathlib.Nat.{le-trans, lt-of-lt-of-le, mul-le-mul-right}
 use native.Mathlib.Omega.{arith}

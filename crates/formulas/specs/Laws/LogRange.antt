@@ -8,9 +8,11 @@ use lib.Dec.{lit<, lit≤}
 use lib.Pow.{pow-mono}
 use Rattle.exact.specs.Rounding.{up, down}
 use Rattle.exact.specs.Laws.Rounding.{up-least, down-most, down-most-above}
+use Rattle.exact.specs.Trillion.{trillion}
 use Rattle.formulas.specs.Constants.{tera, ln2Low, ln2High}
 use Rattle.formulas.specs.Logarithm.{octaves, doubled, series, firstPower, termCount, thirteenTerms, logLow, logHigh}
 use Rattle.formulas.specs.Laws.Octaves.{Largest, octaves-largest}
+use Rattle.formulas.specs.Bounds.{mostPower, mostTerms, mostLog, leastInsulationLog}
 
 pub tera>0 : 0 < tera
 unfolding tera
@@ -30,7 +32,7 @@ module _ {round : ℕ → ℕ → ℕ} (bounded : Bounded round) where
   -- the next power is not above the last one
   pub power-most : (p q m : ℕ) → q ≤ tera → p ≤ m → round (p * q) tera ≤ m
   unfolding tera
-  power-most p q m q≤ p≤ = bounded (p * q) m 1000000000000 (lit< tt) (mul-le-mul p≤ q≤)
+  power-most p q m q≤ p≤ = bounded (p * q) m trillion (lit< tt) (mul-le-mul p≤ q≤)
 
   pub term-most : (p j m : ℕ) → p ≤ m → round (2 * p) (2 * j + 1) ≤ 2 * m
   term-most p j m p≤ = bounded (2 * p) (2 * m) (2 * j + 1) (omega arith) (omega arith)
@@ -42,22 +44,22 @@ module _ {round : ℕ → ℕ → ℕ} (bounded : Bounded round) where
       omega (arith, term-most p j m p≤, series-most q terms (j + 1) (round (p * q) tera) m q≤ (power-most p q m q≤ p≤))
 
   -- ζ is at most a third
-  pub firstPower-most : (a b : ℕ) → 0 < b → b ≤ a → firstPower round a b ≤ 333333333334
+  pub firstPower-most : (a b : ℕ) → 0 < b → b ≤ a → firstPower round a b ≤ mostPower
   unfolding firstPower doubled tera
   firstPower-most a b b>0 b≤a =
       let k : Largest a b (octaves a b) = octaves-largest a b b>0 b≤a in
-      bounded _ 333333333334 (a + 2 ^ octaves a b * b) (omega arith) (omega arith)
+      bounded _ mostPower (a + 2 ^ octaves a b * b) (omega arith) (omega arith)
 
-  third≤tera : 333333333334 ≤ tera
+  third≤tera : mostPower ≤ tera
   unfolding tera
   third≤tera = lit≤ tt
 
-  pub thirteenTerms-most : (p : ℕ) → p ≤ 333333333334 → thirteenTerms round p ≤ 8666666666684
+  pub thirteenTerms-most : (p : ℕ) → p ≤ mostPower → thirteenTerms round p ≤ mostTerms
   unfolding thirteenTerms
   thirteenTerms-most p p≤ =
       le-trans
-      (series-most (round (p * p) tera) termCount 0 p 333333333334
-      (le-trans (power-most p p 333333333334 (le-trans p≤ third≤tera) p≤) third≤tera)
+      (series-most (round (p * p) tera) termCount 0 p mostPower
+      (le-trans (power-most p p mostPower (le-trans p≤ third≤tera) p≤) third≤tera)
       p≤)
       (lit≤ tt)
 
@@ -67,7 +69,7 @@ octaves-most a b b>0 b≤a a< =
     let powers : 2 ^ octaves a b < 2 ^ 15 = lt-of-mul-lt-mul-right b (lt-of-le-of-lt (k .below) a<) in
     omega (arith, lt-of-not-le {n = 15} {m = octaves a b} (λ 15≤. omega (arith, pow-mono 15≤)))
 
-pub logHigh-most : (a b : ℕ) → 0 < b → b ≤ a → a < 32768 * b → logHigh a b ≤ 18370727194525
+pub logHigh-most : (a b : ℕ) → 0 < b → b ≤ a → a < 32768 * b → logHigh a b ≤ mostLog
 unfolding logHigh ln2High
 logHigh-most a b b>0 b≤a a< =
     omega (
@@ -76,7 +78,7 @@ logHigh-most a b b>0 b≤a a< =
       octaves-most a b b>0 b≤a a<,
     )
 
-pub logLow-most : (a b : ℕ) → 0 < b → b ≤ a → a < 32768 * b → logLow a b ≤ 18370727194525
+pub logLow-most : (a b : ℕ) → 0 < b → b ≤ a → a < 32768 * b → logLow a b ≤ mostLog
 unfolding logLow ln2Low
 logLow-most a b b>0 b≤a a< =
     omega (
@@ -96,11 +98,11 @@ firstPower-least a b b>0 h none =
     let same : 2 ^ octaves a b * b ≡ b = ap (λ k. 2 ^ k * b) none ∙ one-mul b in
     down-most _ 24390243902 (omega arith) (omega arith)
 
-pub logLow-least : (a b : ℕ) → 0 < b → 21 * b ≤ 20 * a → 48780487804 ≤ logLow a b
+pub logLow-least : (a b : ℕ) → 0 < b → 21 * b ≤ 20 * a → leastInsulationLog ≤ logLow a b
 unfolding logLow ln2Low
 logLow-least a b b>0 h = go (octaves a b) refl
   where
-    go : (k : ℕ) → octaves a b ≡ k → 48780487804 ≤ thirteenTerms down (firstPower down a b) + 693147180559 * octaves a b
+    go : (k : ℕ) → octaves a b ≡ k → leastInsulationLog ≤ thirteenTerms down (firstPower down a b) + 693147180559 * octaves a b
     go zero none =
         omega (arith, firstPower-least a b b>0 h none, thirteenTerms-least (firstPower down a b))
     go (suc k) some = omega arith

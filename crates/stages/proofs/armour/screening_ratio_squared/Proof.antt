@@ -4,9 +4,11 @@ use native.Mathlib.Omega.{arith}
 use native.Mathlib.Nat.{mul-le-mul}
 use lib.Dec.{lit<}
 use Rattle.exact.specs.Rounding.{down}
+use Rattle.exact.specs.Trillion.{trillion}
 use Rattle.formulas.specs.Constants.{tera}
 use Rattle.formulas.specs.Armour.{screeningRatioSquared}
 use Rattle.formulas.specs.Laws.Ranges.{screeningRatio-most}
+use Rattle.formulas.specs.Bounds.{mostBondRatio, mostBondRatioSquared}
 use Rattle.stages.proofs.Quotients.{fits-down}
 use Prim.Native.Nat.{_*_, _≤_}
 use Rattle.stages.proofs.armour.screening_ratio_squared.Statement.{statement}
@@ -17,19 +19,18 @@ unfolding tera
 v-is c = c .mul-div-down .ensures
 
 mul-div-down-requires : tie.Need-mul-div-down-requires
-mul-div-down-requires c κs = (omega arith, fits-down 2083000000000000 (omega arith) (omega arith) tt)
+mul-div-down-requires c κs = (omega arith, fits-down mostBondRatio (omega arith) (omega arith) tt)
 
 mul-div-down-trillion-requires : tie.Need-mul-div-down-trillion-requires
 mul-div-down-trillion-requires c κs =
-    let v≤ : c .mul-div-down .result ≤ 2083000000000000 =
+    let v≤ : c .mul-div-down .result ≤ mostBondRatio =
     omega (arith, v-is c, screeningRatio-most (c .before .pre .0) (c .before .pre .1))
     in
-    fits-down 4338889000000000000 (lit< tt) (omega (arith, mul-le-mul v≤ v≤)) tt
+    fits-down mostBondRatioSquared (lit< tt) (omega (arith, mul-le-mul v≤ v≤)) tt
 
 returns : tie.Need-returns
 unfolding screeningRatioSquared tera
-returns c = c .mul-div-down-trillion .ensures ∙ ap (λ v. down (v * v) 1000000000000) (c .before .mul-div-down .ensures)
+returns c = c .mul-div-down-trillion .ensures ∙ ap (λ v. down (v * v) trillion) (c .before .mul-div-down .ensures)
 
 pub screening-ratio-squared-spec : {M : Type 1} → statement M
-screening-ratio-squared-spec =
-    tie.close (tie.spec mul-div-down-requires mul-div-down-trillion-requires returns)
+screening-ratio-squared-spec = tie.close (tie.spec mul-div-down-requires mul-div-down-trillion-requires returns)

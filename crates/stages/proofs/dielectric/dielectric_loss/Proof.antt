@@ -3,6 +3,7 @@ use borrow.Author.Needs.{needs}
 use native.Mathlib.Omega.{arith}
 use native.Mathlib.Nat.{mul-le-mul}
 use Rattle.formulas.specs.Dielectric.{dielectricLoss}
+use Rattle.formulas.specs.Bounds.{mostDielectricLoss}
 use Rattle.stages.proofs.Quotients.{fits-up}
 use Prim.Native.Nat.{_*_, _≤_}
 use Rattle.stages.proofs.dielectric.dielectric_loss.Statement.{statement}
@@ -24,7 +25,7 @@ mul-mul-div-up-3 : tie.Need-mul-mul-div-up-3
 mul-mul-div-up-3 c = omega (arith, product-most c)
 
 mul-div-up-requires : tie.Need-mul-div-up-requires
-mul-div-up-requires c κs = (omega arith, fits-up 33500000000000000 (omega arith) (omega (arith, mul-le-mul (product-most c) (c .pre .3))) tt)
+mul-div-up-requires c κs = (omega arith, fits-up mostDielectricLoss (omega arith) (omega (arith, mul-le-mul (product-most c) (c .pre .3))) tt)
 
 returns : tie.Need-returns
 unfolding dielectricLoss
@@ -33,10 +34,4 @@ returns c = c .mul-div-up .ensures
 pub dielectric-loss-spec : {M : Type 1} → statement M
 dielectric-loss-spec =
     tie.close
-    (tie.spec
-    mul-mul-div-up
-    mul-mul-div-up-2
-    mul-mul-div-up-3
-    (λ c. search needs)
-    mul-div-up-requires
-    returns)
+    (tie.spec mul-mul-div-up mul-mul-div-up-2 mul-mul-div-up-3 (λ c. search needs) mul-div-up-requires returns)

@@ -5,6 +5,7 @@ use native.Mathlib.Nat.{mul-le-mul}
 use lib.Dec.{lit<}
 use Rattle.formulas.specs.Dielectric.{dielectricResistance, dielectricRise}
 use Rattle.formulas.specs.Laws.Ranges.{dielectricResistance-most}
+use Rattle.formulas.specs.Bounds.{mostDielectricRise}
 use Rattle.stages.proofs.Quotients.{fits-up}
 use Prim.Native.Nat.{_+_, _*_, _≤_}
 use Rattle.stages.proofs.dielectric.dielectric_rise.Statement.{statement}
@@ -27,7 +28,7 @@ unfolding dielectricResistance
 mul-div-up-requires c κs =
     let pre = c .pre in
     let t≤ = dielectricResistance-most (pre .0) (pre .2) (pre .3) (pre .4) (pre .5) in
-    (lit< tt, fits-up 4187500000000000 (lit< tt) (mul-le-mul (pre .1) t≤) tt)
+    (lit< tt, fits-up mostDielectricRise (lit< tt) (mul-le-mul (pre .1) t≤) tt)
 
 returns : tie.Need-returns
 unfolding dielectricRise dielectricResistance
@@ -36,11 +37,5 @@ returns c = c .mul-div-up .ensures
 pub dielectric-rise-spec : {M : Type 1} → statement M
 dielectric-rise-spec =
     tie.close
-    (tie.spec
-    (λ c. search needs)
-    (λ c. search needs)
-    (λ c. search needs)
-    mul-mul-div-up-2
-    add-mul-div-up-3
-    mul-div-up-requires
-    returns)
+    (tie.spec (λ c. search needs) (λ c. search needs) (λ c. search needs) mul-mul-div-up-2 add-mul-div-up-3
+    mul-div-up-requires returns)

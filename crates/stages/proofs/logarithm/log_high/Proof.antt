@@ -58,13 +58,5 @@ returns c =
 pub log-high-spec : {M : Type 1} → statement M
 log-high-spec =
     tie.close
-    (tie.spec
-    (λ c κs. search needs)
-    sub-mul-div-up
-    add-mul-div-up
-    mul-div-up-requires
-    thirteen-terms-up-requires
-    add-result
-    mul-result
-    add-result-2
-    returns)
+    (tie.spec (λ c κs. search needs) sub-mul-div-up add-mul-div-up mul-div-up-requires thirteen-terms-up-requires
+    add-result mul-result add-result-2 returns)

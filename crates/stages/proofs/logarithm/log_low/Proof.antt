@@ -55,12 +55,5 @@ returns c =
 pub log-low-spec : {M : Type 1} → statement M
 log-low-spec =
     tie.close
-    (tie.spec
-    (λ c κs. search needs)
-    sub-mul-div-down
-    add-mul-div-down
-    mul-div-down-requires
-    thirteen-terms-down-requires
-    mul-result
-    add-result
-    returns)
+    (tie.spec (λ c κs. search needs) sub-mul-div-down add-mul-div-down mul-div-down-requires
+    thirteen-terms-down-requires mul-result add-result returns)

@@ -42,19 +42,6 @@ returns-2 c = done (c .before .loop .inv) (c .loop-test .left)
 pub thirteen-terms-down-spec : {M : Type 1} → statement M
 thirteen-terms-down-spec =
     tie.close
-    (tie.spec
-    Inv-loop
-    μ-loop
-    mul-div-down-trillion-requires
-    loop-holds
-    returns
-    (λ c. omega arith)
-    (λ c. omega arith)
-    (λ c. omega arith)
-    (λ c. omega arith)
-    add-sum-2
-    mul-div-down-trillion-requires-2
-    (λ c. omega arith)
-    (λ c. omega arith)
-    loop-again
-    returns-2)
+    (tie.spec Inv-loop μ-loop mul-div-down-trillion-requires loop-holds returns (λ c. omega arith) (λ c. omega arith)
+    (λ c. omega arith) (λ c. omega arith) add-sum-2 mul-div-down-trillion-requires-2 (λ c. omega arith)
+    (λ c. omega arith) loop-again returns-2)

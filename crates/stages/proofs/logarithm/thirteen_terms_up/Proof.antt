@@ -47,23 +47,6 @@ returns-2 c = done (c .before .loop .inv) (c .loop-test .left)
 pub thirteen-terms-up-spec : {M : Type 1} → statement M
 thirteen-terms-up-spec =
     tie.close
-    (tie.spec
-    Inv-loop
-    μ-loop
-    mul-div-up-trillion-requires
-    loop-holds
-    (λ c. omega arith)
-    (λ c. omega arith)
-    returns
-    (λ c. omega arith)
-    (λ c. omega arith)
-    (λ c. omega arith)
-    (λ c. omega arith)
-    (λ c. omega arith)
-    (λ c. omega arith)
-    add-sum-3
-    mul-div-up-trillion-requires-2
-    (λ c. omega arith)
-    (λ c. omega arith)
-    loop-again
-    returns-2)
+    (tie.spec Inv-loop μ-loop mul-div-up-trillion-requires loop-holds (λ c. omega arith) (λ c. omega arith) returns
+    (λ c. omega arith) (λ c. omega arith) (λ c. omega arith) (λ c. omega arith) (λ c. omega arith) (λ c. omega arith)
+    add-sum-3 mul-div-up-trillion-requires-2 (λ c. omega arith) (λ c. omega arith) loop-again returns-2)

@@ -16,4 +16,6 @@ returns c = c .mul-div-up .ensures
 
 pub proximity-h-spec : {M : Type 1} → statement M
 proximity-h-spec =
-    tie.close (tie.spec (λ c. search needs) (λ c. search needs) (λ c. search needs) mul-div-up-requires returns)
+    tie.close
+    (tie.spec (λ c. search needs) (λ c. search needs) (λ c. search needs) (λ c. search needs) mul-div-up-requires
+    returns)

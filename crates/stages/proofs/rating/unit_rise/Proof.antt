@@ -37,16 +37,5 @@ returns c = ap₂ _+_ (ap₂ _+_ (c .before .before .rise .ensures .0) (c .befor
 pub unit-rise-spec : {M : Type 1} → statement M
 unit-rise-spec =
     tie.close
-    (tie.spec
-    (λ c κs. search needs)
-    (λ c. search needs)
-    mul-rise
-    rise-requires-2
-    (λ c. search needs)
-    (λ c. search needs)
-    (λ c. search needs)
-    mul-rise-2
-    (λ c. search needs)
-    rise-requires-3
-    (λ c. search needs)
-    returns)
+    (tie.spec (λ c κs. search needs) (λ c. search needs) mul-rise rise-requires-2 (λ c. search needs)
+    (λ c. search needs) (λ c. search needs) mul-rise-2 (λ c. search needs) rise-requires-3 (λ c. search needs) returns)

@@ -6,11 +6,12 @@ use Rattle.exact.specs.Rounding.{up}
 use Rattle.exact.specs.Laws.Rounding.{up-code}
 use Rattle.formulas.specs.Sheath.{threeHalves, slLoss}
 use Rattle.formulas.specs.Laws.Ranges.{circulatingLoss-most}
+use Rattle.formulas.specs.Bounds.{mostResistance}
 use Prim.Native.Nat.{_*_, _≤_}
 use Rattle.stages.proofs.sheath.sl_loss.Statement.{statement}
 use Rattle.stages.proofs.sheath.sl_loss.Tie as tie
 
-s-most : (c : tie.After-circulating-loss) → c .circulating-loss .result ≤ 407000000000000
+s-most : (c : tie.After-circulating-loss) → c .circulating-loss .result ≤ mostResistance
 s-most c =
     omega
     (arith, circulatingLoss-most (c .before .args .x) (c .before .args .rs), c .circulating-loss .ensures, c .before .pre .2)

@@ -23,5 +23,4 @@ unfolding spacingLogHigh ln2ThirdHigh
 returns-2 c = simp (ne-eqb _ _ (c .if1 .left), add-zero) (c .before .log-high .ensures)
 
 pub spacing-log-high-spec : {M : Type 1} → statement M
-spacing-log-high-spec =
-    tie.close (tie.spec (λ c. search needs) (λ c κs. search needs) add-result returns returns-2)
+spacing-log-high-spec = tie.close (tie.spec (λ c. search needs) (λ c κs. search needs) add-result returns returns-2)

@@ -23,5 +23,4 @@ unfolding spacingLogLow ln2ThirdLow
 returns-2 c = simp (ne-eqb _ _ (c .if1 .left), add-zero) (c .before .log-low .ensures)
 
 pub spacing-log-low-spec : {M : Type 1} → statement M
-spacing-log-low-spec =
-    tie.close (tie.spec (λ c. search needs) (λ c κs. search needs) add-result returns returns-2)
+spacing-log-low-spec = tie.close (tie.spec (λ c. search needs) (λ c κs. search needs) add-result returns returns-2)

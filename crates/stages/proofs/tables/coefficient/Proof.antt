@@ -10,4 +10,5 @@ unfolding metalTable entry coefficient
 returns c = refl
 
 pub coefficient-spec : {M : Type 1} → statement M
-coefficient-spec = tie.close (tie.spec (λ c. search needs) (λ c. search needs) (λ c. search needs) (λ c. search needs) returns)
+coefficient-spec =
+    tie.close (tie.spec (λ c. search needs) (λ c. search needs) (λ c. search needs) (λ c. search needs) returns)

@@ -51,18 +51,5 @@ returns-2 c =
 pub digit-spec : {M : Type 1} → statement M
 digit-spec =
     tie.close
-    (tie.spec
-    (λ c. search needs)
-    (λ c. search needs)
-    mul-have
-    add-have
-    mul-owed
-    (λ c κs. search needs)
-    two-less
-    (λ c. search needs)
-    (λ c. search needs)
-    returns
-    (λ c κs. search needs)
-    sign-less
-    (λ c κs. search needs)
-    returns-2)
+    (tie.spec (λ c. search needs) (λ c. search needs) mul-have add-have mul-owed (λ c κs. search needs) two-less
+    (λ c. search needs) (λ c. search needs) returns (λ c κs. search needs) sign-less (λ c κs. search needs) returns-2)

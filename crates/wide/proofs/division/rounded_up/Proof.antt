@@ -1,7 +1,7 @@
 -- `wide::division::rounded_up` meets its contract: the test of its branch is that of `upward`. Assumes nothing.
 use mathlib.Core.Path.{sym}
 use native.Mathlib.Omega.{arith}
-use Rattle.wide.specs.Split.{upward-none, upward-some}
+use Rattle.wide.specs.Laws.Split.{upward-none, upward-some}
 use Rattle.wide.proofs.division.rounded_up.Statement.{statement}
 use Rattle.wide.proofs.division.rounded_up.Tie as tie
 

@@ -55,15 +55,5 @@ returns c = columns 4294967296 (c .args .a) (c .args .b)
 pub product-spec : {M : Type 1} → statement M
 product-spec =
     tie.close
-    (tie.spec
-    mul-first
-    mul-second
-    add-second
-    mul-third
-    add-third
-    mul-t10
-    add-t12
-    add-t14
-    (λ c. search needs)
-    (λ c. search needs)
-    returns)
+    (tie.spec mul-first mul-second add-second mul-third add-third mul-t10 add-t12 add-t14 (λ c. search needs)
+    (λ c. search needs) returns)

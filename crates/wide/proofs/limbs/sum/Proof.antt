@@ -33,4 +33,6 @@ returns-2 c = omega arith
 
 pub sum-spec : {M : Type 1} → statement M
 sum-spec =
-    tie.close (tie.spec (λ c. search needs) add-t5 (λ c. search needs) returns add-t7 add-t8 (λ c. search needs) (λ c. search needs) returns-2)
+    tie.close
+    (tie.spec (λ c. search needs) add-t5 (λ c. search needs) returns add-t7 add-t8 (λ c. search needs)
+    (λ c. search needs) returns-2)

@@ -3,7 +3,7 @@ use Prim.Native.Nat.{_^_}
 use native.Mathlib.Nat.{mod-lt}
 use borrow.Author.Needs.{needs}
 use Rattle.wide.specs.Limbs.{value}
-use Rattle.wide.specs.Split.{divided}
+use Rattle.wide.specs.Laws.Split.{divided}
 use Rattle.wide.proofs.LongDivision.{two-digits}
 use Rattle.wide.proofs.quotient.divided.Statement.{statement}
 use Rattle.wide.proofs.quotient.divided.Tie as tie

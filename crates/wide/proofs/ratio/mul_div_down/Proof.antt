@@ -1,6 +1,6 @@
 -- `wide::ratio::mul_div_down` meets its contract: the quotient is a·b/c rounded down. Assumes nothing.
 use borrow.Author.Needs.{needs}
-use Rattle.wide.specs.Split.{split-down}
+use Rattle.wide.specs.Laws.Split.{split-down}
 use Rattle.wide.proofs.ratio.mul_div_down.Statement.{statement}
 use Rattle.wide.proofs.ratio.mul_div_down.Tie as tie
 

@@ -4,7 +4,7 @@ use mathlib.Core.Path.{sym, subst, _∙_}
 use Prim.Native.Nat.{ℕ, _^_, _<_}
 use native.Mathlib.Nat.{lt-of-le-of-lt}
 use Rattle.exact.specs.Laws.Rounding.{down-le-up}
-use Rattle.wide.specs.Split.{split-up}
+use Rattle.wide.specs.Laws.Split.{split-up}
 use Rattle.wide.proofs.ratio.mul_div_up.Statement.{statement}
 use Rattle.wide.proofs.ratio.mul_div_up.Tie as tie
 

@@ -2,7 +2,7 @@
 -- omega multiplies out. Assumes nothing.
 use Prim.Native.Nat.{_^_}
 use native.Mathlib.Omega.{arith}
-use Rattle.wide.specs.Split.{divided-low}
+use Rattle.wide.specs.Laws.Split.{divided-low}
 use Rattle.wide.proofs.trillion.divide.Statement.{statement}
 use Rattle.wide.proofs.trillion.divide.Tie as tie
 
@@ -15,4 +15,5 @@ returns-2 c = record { whole = omega arith; below = omega arith }
 pub divide-spec : {M : Type 1} → statement M
 divide-spec =
     tie.close
-    (tie.spec returns (λ c. omega arith) (λ c. omega arith) (λ c. omega arith) (λ c. omega arith) (λ c. omega arith) (λ c. omega arith) (λ c. omega arith) (λ c. omega arith) returns-2)
+    (tie.spec returns (λ c. omega arith) (λ c. omega arith) (λ c. omega arith) (λ c. omega arith) (λ c. omega arith)
+    (λ c. omega arith) (λ c. omega arith) (λ c. omega arith) returns-2)

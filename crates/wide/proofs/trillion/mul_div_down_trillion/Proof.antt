@@ -1,6 +1,6 @@
 -- `wide::trillion::mul_div_down_trillion` meets its contract: the quotient is a·b/10^12 rounded down. Assumes nothing.
 use borrow.Author.Needs.{needs}
-use Rattle.wide.specs.Split.{split-down}
+use Rattle.wide.specs.Laws.Split.{split-down}
 use Rattle.wide.proofs.trillion.mul_div_down_trillion.Statement.{statement}
 use Rattle.wide.proofs.trillion.mul_div_down_trillion.Tie as tie
 

@@ -5,7 +5,7 @@ use Prim.Native.Nat.{ℕ, _^_, _<_}
 use native.Mathlib.Nat.{lt-of-le-of-lt}
 use native.Mathlib.Omega.{arith}
 use Rattle.exact.specs.Laws.Rounding.{down-le-up}
-use Rattle.wide.specs.Split.{split-up}
+use Rattle.wide.specs.Laws.Split.{split-up}
 use Rattle.wide.proofs.trillion.mul_div_up_trillion.Statement.{statement}
 use Rattle.wide.proofs.trillion.mul_div_up_trillion.Tie as tie
 

@@ -1,4 +1,4 @@
--- Document 01, 'Values at the edges': the starred ones, as one theorem. Each is computed from the definition or the table that the
+-- The starred values at the edges of docs/CLAIMS.md, as one theorem. Each is computed from the definition or the table that the
 -- rating uses. Assumes nothing.
 use mathlib.Core.Path.{_≡_, refl}
 use mathlib.Core.Bool.{Bool, true, false}

@@ -1,4 +1,4 @@
--- `wide::division::long` meets its contract: the shifted number over the shifted divisor, in two digits, is the quotient of
+-- `wide::division::long_division` meets its contract: the shifted number over the shifted divisor, in two digits, is the quotient of
 -- the numbers as they were. Assumes nothing.
 use mathlib.Core.Path.{_≡_, sym, ap, subst, _∙_}
 use Prim.Native.Nat.{ℕ, _+_, _-_, _*_, _/_, _%_, _^_, _≤_, _<_}
@@ -8,8 +8,8 @@ use lib.Pow.{pow-pos, pow-add}
 use borrow.Author.Needs.{needs}
 use Rattle.wide.specs.Split.{Split}
 use Rattle.wide.proofs.LongDivision.{one-limb, shifted-is, shifted-below, long-is}
-use Rattle.wide.proofs.division.long.Statement.{statement}
-use Rattle.wide.proofs.division.long.Tie as tie
+use Rattle.wide.proofs.division.long_division.Statement.{statement}
+use Rattle.wide.proofs.division.long_division.Tie as tie
 
 -- the bits of l that a shift by s moves out, taken by a shift the other way
 moved-out : (l s : ℕ) → s < 64 → l / 2 / 2 ^ (63 - s) ≡ l * 2 ^ s / 2 ^ 64
@@ -78,25 +78,9 @@ add-t10 c = record { fits = quotient-fits (c .before .before) }
 returns : tie.Need-returns
 returns c = answer (c .before .before .before)
 
-pub long-spec : {M : Type 1} → statement M
-long-spec =
+pub long-division-spec : {M : Type 1} → statement M
+long-division-spec =
     tie.close
-    (tie.spec
-    (λ c κs. search needs)
-    (λ c. search needs)
-    (λ c. search needs)
-    (λ c. search needs)
-    (λ c. search needs)
-    (λ c. search needs)
-    (λ c. search needs)
-    (λ c. search needs)
-    add-u
-    (λ c. search needs)
-    (λ c. search needs)
-    digit-requires
-    (λ c κs. search needs)
-    mul-t15
-    add-t10
-    (λ c. search needs)
-    (λ c. search needs)
-    returns)
+    (tie.spec (λ c κs. search needs) (λ c. search needs) (λ c. search needs) (λ c. search needs) (λ c. search needs)
+    (λ c. search needs) (λ c. search needs) (λ c. search needs) add-u (λ c. search needs) (λ c. search needs)
+    digit-requires (λ c κs. search needs) mul-t15 add-t10 (λ c. search needs) (λ c. search needs) returns)

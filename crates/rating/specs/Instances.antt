@@ -7,7 +7,7 @@ use lib.Dec.{lit<, lit≤}
 use Rattle.exact.specs.Rounding.{up, down}
 use Rattle.exact.specs.Fraction.{_over_, whole, _≤F_, _<F_}
 use Rattle.exact.specs.Root.{root}
-use Rattle.formulas.specs.Tables.{ksTable, kpTable, metalTable, entry, ks, kp, coefficient, conductorMetal}
+use Rattle.formulas.specs.Tables.{conductorMetal}
 use Rattle.formulas.specs.Resistance.{temperatureFactor, resistance}
 use Rattle.formulas.specs.Reactance.{reactance, reactanceLow}
 use Rattle.formulas.specs.Skin.{skinReactance, skinRatio, skinRatioSquared, factor, skinFactor}
@@ -65,8 +65,8 @@ chosen =
 pub answer : (rateOf cable .number ≡ 0) × (rateOf cable .rating ≡ 457106)
 unfolding judged loaded rated screen arrangementHeld conductorHeld limitsHeld conductorLimits sheathLimits thermalLimits armoured
     eddying armourLimits strayHeld geometryHeld heatHeld metalHeld skinRefused eddyRefused dielectricRefused currentRefused coresOf rcOf rsOf
-    raOf bOf zsOf zpOf ysOf ypOf rOf xOf xLowOf sOf wOf wdOf ddOf riseOf eOf currentOf ks kp coefficient conductorMetal entry ksTable kpTable
-    metalTable temperatureFactor resistance reactance reactanceLow skinReactance skinRatio skinRatioSquared factor skinFactor spacingRatio
+    raOf bOf zsOf zpOf ysOf ypOf rOf xOf xLowOf sOf wOf wdOf ddOf riseOf eOf currentOf conductorMetal
+    temperatureFactor resistance reactance reactanceLow skinReactance skinRatio skinRatioSquared factor skinFactor spacingRatio
     proximityH proximityG proximityFactor acResistance logLow logHigh thirteenTerms series firstPower doubled octaves doublings
     spacingLogHigh spacingLogLow sheathReactance sheathReactanceLow bondRatio bondRatioSquared circulatingLoss threeHalves slLoss armourRatio
     armourRatioSquared reducedArmourResistance unscreenedLoss screeningRatioSquared screenedLoss armourLoss dielectricLoss dielectricResistance

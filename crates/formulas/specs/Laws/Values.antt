@@ -7,7 +7,7 @@ use mathlib.Core.List.{[], _∷_, map}
 use lib.IntN.{pos, negℤ}
 use Rattle.exact.specs.Rounding.{up, down}
 use Rattle.exact.specs.Root.{root}
-use Rattle.formulas.specs.Tables.{ksTable, kpTable, metalTable, entry, ks, kp, coefficient, conductorMetal}
+use Rattle.formulas.specs.Tables.{ks, kp, coefficient, conductorMetal}
 use Rattle.formulas.specs.Constants.{tera, piLow, piHigh, ln2Low, ln2High, ln2ThirdLow, ln2ThirdHigh}
 use Rattle.formulas.specs.Resistance.{temperatureFactor, resistance}
 use Rattle.formulas.specs.Skin.{skinReactance, skinRatio, skinRatioSquared, factor, skinFactor}
@@ -100,11 +100,11 @@ pub record Recomputed : Type 0 where
   pub I : rating 69442058483 3323443717554 ≡ 457106
 
 pub recomputed : Recomputed
-unfolding up down root ksTable kpTable metalTable entry ks kp coefficient conductorMetal tera piLow piHigh ln2Low ln2High
-    ln2ThirdLow ln2ThirdHigh temperatureFactor resistance skinReactance skinRatio skinRatioSquared factor skinFactor
-    spacingRatio proximityH proximityG proximityFactor acResistance octaves doubled firstPower thirteenTerms logLow
-    logHigh spacingLogHigh spacingLogLow sheathReactance sheathReactanceLow bondRatio bondRatioSquared circulatingLoss
-    threeHalves slLoss eddyRatio eddyRatioSquared eddyFactor eddySpacing eddyLoss armourRatio armourRatioSquared reducedArmourResistance
+unfolding up down root conductorMetal tera piLow piHigh ln2Low ln2High ln2ThirdLow ln2ThirdHigh temperatureFactor resistance
+    skinReactance skinRatio skinRatioSquared factor skinFactor spacingRatio proximityH proximityG proximityFactor
+    acResistance octaves doubled firstPower thirteenTerms logLow logHigh spacingLogHigh spacingLogLow
+    sheathReactance sheathReactanceLow bondRatio bondRatioSquared circulatingLoss threeHalves slLoss eddyRatio
+    eddyRatioSquared eddyFactor eddySpacing eddyLoss armourRatio armourRatioSquared reducedArmourResistance
     unscreenedLoss screeningRatioSquared screenedLoss armourLoss dielectricLoss dielectricResistance dielectricRise
     permittedRise currentRise unitRise rating
 recomputed =

@@ -11,14 +11,17 @@ pub mod TableRange
 pub mod LogEndsGap
 pub mod LogEndsSum
 pub mod LogEndsHold
+pub mod Between
 pub mod CloseReactance
 pub mod CloseRise
 pub mod CloseUnitRise
 pub mod CloseConductor
 pub mod CloseResistance
 pub mod CloseDielectric
+pub mod CloseInverse
 pub mod CloseArmour
 pub mod CloseSpacing
+pub mod CloseSpacingLow
 pub mod CloseSheath
 pub mod CloseEddy
 pub mod CloseScreening

@@ -21,7 +21,7 @@ use Rattle.formulas.specs.Laws.CloseResistance.{resistance-close}
 use Rattle.formulas.specs.Laws.CloseSpacing.{sheathReactance-close, sheathReactance-least, spacingLogHigh-least}
 use Rattle.formulas.specs.Laws.CloseSheath.{circulating-close, sl-close}
 use Rattle.formulas.specs.Laws.CloseEddy.{eddy-close}
-use Rattle.formulas.specs.Laws.CloseScreening.{sheathReactanceLow-close, sheathReactanceLow-least}
+use Rattle.formulas.specs.Laws.CloseSpacingLow.{sheathReactanceLow-close, sheathReactanceLow-least}
 use Rattle.formulas.specs.Laws.CloseArmour.{armour-close}
 use Rattle.formulas.specs.Laws.CloseDielectric.{loss-close, dielectric-close}
 use Rattle.formulas.specs.Laws.CloseUnitRise.{unitRise-close}

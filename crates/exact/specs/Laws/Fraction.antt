@@ -3,7 +3,17 @@
 use mathlib.Core.Bool.{Bool, true, _&&_}
 use mathlib.Core.Path.{_≡_, refl, sym, ap₂}
 use Prim.Native.Nat.{ℕ, _+_, _*_, _≤_, _<_}
-use native.Mathlib.Nat.{mul-le-mul, le-refl, le-of-lt, le-of-eq, mul-le-mul-right, mul-lt-mul-of-pos-right, mul-pos, le-of-mul-le-mul-right, lt-of-mul-lt-mul-right}
+use native.Mathlib.Nat.{
+  mul-le-mul,
+  le-refl,
+  le-of-lt,
+  le-of-eq,
+  mul-le-mul-right,
+  mul-lt-mul-of-pos-right,
+  mul-pos,
+  le-of-mul-le-mul-right,
+  lt-of-mul-lt-mul-right,
+}
 use native.Mathlib.Omega.{arith}
 use lib.Dec.{T, leb, ltb, lit<, lit≤}
 use Rattle.exact.specs.Rounding.{up, down}

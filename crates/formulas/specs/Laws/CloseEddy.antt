@@ -22,14 +22,7 @@ use Rattle.formulas.specs.Sheath.{
   eddyFactor*,
   eddyLoss*,
 }
-use Rattle.formulas.specs.Laws.Ranges.{
-  In,
-  reactance-range,
-  eddyRatio-most,
-  eddyRatioSquared-most,
-  eddyFactor-most,
-  eddyInner-most,
-}
+use Rattle.formulas.specs.Laws.Ranges.{In, reactance-range, eddyFactor-most, eddyInner-most}
 use Rattle.formulas.specs.Laws.CloseReactance.{reactance-close}
 use Rattle.formulas.specs.Laws.LogRange.{tera>0}
 use Rattle.formulas.specs.Laws.CloseSheath.{zero-and, ratio-close, square-close, saturate-close}
@@ -128,6 +121,6 @@ eddy-close {f = f} {rs} pi f-range rs-range b≤ j≤ d>0 d≤s =
     let b≥ = reactance-range f-range .least in
     let rs≤ = rs-range .most in
     let rs>0 : 0 < rs = omega (arith, rs-range .least) in
-    let inner≤ = eddyInner-most rs≤ (eddyFactor-most (eddyRatioSquared-most (eddyRatio-most (reactance f) rs>0 b≤))) in
+    let inner≤ = eddyInner-most rs≤ (eddyFactor-most (reactance f) rs>0 b≤) in
     outer-close rs _ j≤ (omega arith) d≤s inner≤
     (inner-close rs≤ (eddyFactor-close (eddyRatioSquared-close b≥ b≤ rs≤ (reactance-close pi f-range))))

@@ -30,7 +30,17 @@ use Rattle.formulas.specs.Spacing.{
   spacingLog*,
   sheathReactance*,
 }
-use Rattle.formulas.specs.Sheath.{bondRatio, bondRatioSquared, circulatingLoss, threeHalves, slLoss, circulatingLoss*, slLoss*, eddyLoss, eddyLoss*}
+use Rattle.formulas.specs.Sheath.{
+  bondRatio,
+  bondRatioSquared,
+  circulatingLoss,
+  threeHalves,
+  slLoss,
+  circulatingLoss*,
+  slLoss*,
+  eddyLoss,
+  eddyLoss*,
+}
 use Rattle.formulas.specs.Armour.{
   armourRatio,
   armourRatioSquared,
@@ -49,7 +59,7 @@ use Rattle.formulas.specs.Laws.CloseResistance.{resistance-close}
 use Rattle.formulas.specs.Laws.CloseSpacing.{sheathReactance-close, sheathReactance-least, spacingLogHigh-least}
 use Rattle.formulas.specs.Laws.CloseSheath.{circulating-close, sl-close}
 use Rattle.formulas.specs.Laws.CloseEddy.{eddy-close}
-use Rattle.formulas.specs.Laws.CloseScreening.{sheathReactanceLow-close, sheathReactanceLow-least}
+use Rattle.formulas.specs.Laws.CloseSpacingLow.{sheathReactanceLow-close, sheathReactanceLow-least}
 use Rattle.formulas.specs.Laws.CloseArmour.{armour-close}
 use Rattle.formulas.specs.Laws.CloseDielectric.{loss-close, dielectric-close}
 use Rattle.formulas.specs.Laws.CloseUnitRise.{unitRise-close}
@@ -107,13 +117,22 @@ frequency = record { least = lit≤ tt; most = lit≤ tt }
 
 -- R', Rs and RA
 
-conductor : In leastConductorResistance mostResistance 1556758000000
+abbrev rc : ℕ
+rc = 1556758000000
+
+abbrev rs : ℕ
+rs = 11600000000000
+
+abbrev ra : ℕ
+ra = 2893750000000
+
+conductor : In leastConductorResistance mostResistance rc
 conductor = record { least = lit≤ tt; most = lit≤ tt }
 
-sheath : In leastSheathResistance mostResistance 11600000000000
+sheath : In leastSheathResistance mostResistance rs
 sheath = record { least = lit≤ tt; most = lit≤ tt }
 
-armour : In leastSheathResistance mostResistance 2893750000000
+armour : In leastSheathResistance mostResistance ra
 armour = record { least = lit≤ tt; most = lit≤ tt }
 
 skin : In 120 1000 1000
@@ -125,10 +144,10 @@ proximity = record { least = lit≤ tt; most = lit≤ tt }
 -- R, X, S, X-, W and the S of arrangement 3
 
 abbrev r : ℕ
-r = acResistance 1556758000000 (skinFactor 5000 1000 1556758000000) (proximityFactor (spacingRatio 1450 4200) (skinFactor 5000 800 1556758000000))
+r = acResistance rc (skinFactor 5000 1000 rc) (proximityFactor (spacingRatio 1450 4200) (skinFactor 5000 800 rc))
 
 abbrev r* : Fraction
-r* = acResistance* 1556758000000 (skinFactor* π 5000 1000 1556758000000) (proximityFactor* (spacingRatio* 1450 4200) (skinFactor* π 5000 800 1556758000000))
+r* = acResistance* rc (skinFactor* π 5000 1000 rc) (proximityFactor* (spacingRatio* 1450 4200) (skinFactor* π 5000 800 rc))
 
 r-close : Within 1000 (whole 0) r* (whole r)
 unfolding skinRatio skinReactance piHigh tera up
@@ -146,15 +165,15 @@ x-close = sheathReactance-close 5 is-pi is-ln2 frequency is-log-spacing (lit< tt
 x-least : leastSheathReactance ≤ x
 x-least = sheathReactance-least (reactance-range frequency .least) (spacingLogHigh-least 5 (lit< tt) (lit≤ tt))
 
-circulating : Within 9800 (whole 408) (circulatingLoss* x* 11600000000000) (whole (circulatingLoss x 11600000000000))
+circulating : Within 9800 (whole 408) (circulatingLoss* x* rs) (whole (circulatingLoss x rs))
 circulating = circulating-close x-least sheath x-close
 
 eddies :
-    Within 13080 (whole 1248) (eddyLoss* 1 (reactance* π 5000) 11600000000000 4000 4200) (whole (eddyLoss 1 (reactance 5000) 11600000000000 4000 4200))
+    Within 13080 (whole 1248) (eddyLoss* 1 (reactance* π 5000) rs 4000 4200) (whole (eddyLoss 1 (reactance 5000) rs 4000 4200))
 unfolding reactance piHigh up
 eddies = eddy-close is-pi frequency sheath (lit≤ tt) (lit≤ tt) (lit< tt) (lit≤ tt)
 
-s-close : Within 9800 (whole 613) (slLoss* x* 11600000000000) (whole (slLoss x 11600000000000))
+s-close : Within 9800 (whole 613) (slLoss* x* rs) (whole (slLoss x rs))
 s-close = sl-close x-least sheath x-close
 
 abbrev x- : ℕ
@@ -166,10 +185,10 @@ x-low =
     (sheathReactanceLow-close 5 is-pi is-ln2 frequency is-log-spacing (lit< tt) (lit≤ tt) (lit< tt))
 
 abbrev w : ℕ
-w = armourLoss 2893750000000 (reactance 5000) 2500 11000 x- 11600000000000
+w = armourLoss ra (reactance 5000) 2500 11000 x- rs
 
 abbrev w* : Fraction
-w* = armourLoss* 2893750000000 (reactance* π 5000) 2500 11000 x* 11600000000000
+w* = armourLoss* ra (reactance* π 5000) 2500 11000 x* rs
 
 w-close : Within 22694 (whole 1005) w* (whole w)
 w-close =
@@ -189,13 +208,14 @@ dd-close =
     (loss-close 350 19000 1000 is-pi frequency is-log-insulation (lit< tt) (lit≤ tt) (lit< tt))
 
 abbrev e : ℕ
-e = unitRise 3 r (slLoss x 11600000000000) w 350000 40000 60000 450000
+e = unitRise 3 r (slLoss x rs) w 350000 40000 60000 450000
 
 abbrev e* : Fraction
-e* = unitRise* 3 r* (slLoss* x* 11600000000000) w* 350000 40000 60000 450000
+e* = unitRise* 3 r* (slLoss* x* rs) w* 350000 40000 60000 450000
 
 r-least : leastConductorResistance ≤ r
-unfolding acResistance skinFactor factor skinRatioSquared skinRatio skinReactance proximityFactor proximityG proximityH spacingRatio piHigh tera up
+unfolding acResistance skinFactor factor skinRatioSquared skinRatio skinReactance proximityFactor proximityG
+    proximityH spacingRatio piHigh tera up
 r-least = lit≤ tt
 
 e-close : Within 160000 (whole 0) e* (whole e)
@@ -207,11 +227,17 @@ e-close =
     r-least 3 350000 40000 60000 450000 (lit< tt) (lit≤ tt) (lit≤ tt)
 
 dd-share : 10 * dd ≤ 9 * 70000000000
-unfolding dielectricRise dielectricResistance dielectricLoss reactance logLow thirteenTerms series firstPower doubled octaves doublings ln2Low piHigh tera up down
+unfolding dielectricRise dielectricResistance dielectricLoss reactance logLow thirteenTerms series firstPower
+    doubled octaves doublings ln2Low piHigh tera up down
 dd-share = lit≤ tt
 
 carries : IsRating (70000000000 - dd) e 457106
-unfolding unitRise acResistance skinFactor factor skinRatioSquared skinRatio skinReactance proximityFactor proximityG proximityH spacingRatio slLoss threeHalves circulatingLoss bondRatioSquared bondRatio sheathReactance sheathReactanceLow spacingLogHigh spacingLogLow armourLoss screenedLoss screeningRatioSquared unscreenedLoss reducedArmourResistance armourRatioSquared armourRatio dielectricRise dielectricResistance dielectricLoss reactance reactanceLow logLow logHigh thirteenTerms series firstPower doubled octaves doublings ln2Low ln2High piLow piHigh tera up down
+unfolding unitRise acResistance skinFactor factor skinRatioSquared skinRatio skinReactance proximityFactor
+    proximityG proximityH spacingRatio slLoss threeHalves circulatingLoss bondRatioSquared bondRatio sheathReactance
+    sheathReactanceLow spacingLogHigh spacingLogLow armourLoss screenedLoss screeningRatioSquared unscreenedLoss
+    reducedArmourResistance armourRatioSquared armourRatio dielectricRise dielectricResistance dielectricLoss
+    reactance reactanceLow logLow logHigh thirteenTerms series firstPower doubled octaves doublings ln2Low ln2High
+    piLow piHigh tera up down
 carries = record { carried = lit≤ tt; no-more = lit< tt }
 
 -- The permitted rise is 70 K.

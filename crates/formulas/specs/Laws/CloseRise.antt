@@ -84,7 +84,9 @@ step m dd n u n>0 m≥ dd≤ n≥ =
 joined : (α β γ δ μ ν ξ η : ℕ) → μ ≤ ξ + ν → β ≤ η + γ + δ → α + γ + δ + ν < μ → α + β < ξ + η
 joined α β γ δ μ ν ξ η e-less dd-less step< = omega arith
 
-e-below : (m en ed dd e : ℕ) → trillion * (e * ed) ≤ trillion * en + 160000 * (e * ed) → 10 ^ 12 * (m * e * (ed * dd)) ≤ 10 ^ 12 * (m * en * dd) + 160000 * (m * e * (ed * dd))
+e-below :
+    (m en ed dd e : ℕ) → trillion * (e * ed) ≤ trillion * en + 160000 * (e * ed) →
+    10 ^ 12 * (m * e * (ed * dd)) ≤ 10 ^ 12 * (m * en * dd) + 160000 * (m * e * (ed * dd))
 e-below m en ed dd e h = omega (arith, mul-le-mul-right (m * dd) h)
 
 dd-below :

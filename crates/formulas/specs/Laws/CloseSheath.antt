@@ -122,7 +122,8 @@ pub bondRatioSquared-close :
     Within 9800 (1 over tera) (square (bondRatio* x* rs)) (bondRatioSquared (bondRatio x rs) over tera)
 bondRatioSquared-close {x} {rs} x≥ rs-range p =
     let v-close = bondRatio-close x≥ rs-range p in
-    within-weaken (lit≤ tt) (zero-and tera>0) (within-trans (within-relative-product v-close v-close) (bondRatioSquared-rounds (bondRatio x rs)))
+    within-weaken (lit≤ tt) (zero-and tera>0)
+    (within-trans (within-relative-product v-close v-close) (bondRatioSquared-rounds (bondRatio x rs)))
 
 -- 1/T of the largest Rs, and one rounding
 unit-of-most : (1 over tera) *F whole mostResistance +F whole 1 ≤F whole 408

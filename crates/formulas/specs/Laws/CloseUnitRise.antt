@@ -42,7 +42,8 @@ sum-close {c = c} {d} {x} {y} p q = rw (← whole-+F c d, ← whole-+F x y) (wit
 times-close : {q x : ℕ} {x* : Fraction} (n : ℕ) → Within q (whole 0) x* (whole x) → Within q (whole 0) (whole n *F x*) (whole (n * x))
 times-close {x = x} n p = rw (← whole-*F n x) (within-scale (whole n) (lit< tt) p)
 
-absorb-close : {q c y : ℕ} {x : Fraction} (s : ℕ) → c * trillion ≤ s * y → Within q (whole c) x (whole y) → Within (q + s) (whole 0) x (whole y)
+absorb-close :
+    {q c y : ℕ} {x : Fraction} (s : ℕ) → c * trillion ≤ s * y → Within q (whole c) x (whole y) → Within (q + s) (whole 0) x (whole y)
 unfolding parts _*F_
 absorb-close s small p = within-absorb s (record { left = lit< tt; right = lit< tt; across = omega arith }) p
 
@@ -65,7 +66,9 @@ module _
   unitRise-close n t1 t2 t3 t4 n>0 t1≥ t4≥ =
       let one≤one = ≤F-refl (whole 1) (lit< tt) in
       let first = within-weaken (lit≤ {m = 40000} {n = 150000} tt) one≤one (part-close r t1 r-close) in
-      let second = within-weaken (lit≤ {m = 95000} {n = 150000} tt) one≤one (part-close (n * (r + s)) t2 (times-close n conductor-sheath)) in
+      let second =
+      within-weaken (lit≤ {m = 95000} {n = 150000} tt) one≤one (part-close (n * (r + s)) t2 (times-close n conductor-sheath))
+      in
       let third = part-close (n * (r + s + w)) (t3 + t4) (times-close n all-three) in
       let inner : leastUnitRise ≤ up (r * t1) (10 ^ 6) = up-least-below _ _ (lit< tt) (omega (arith, mul-le-mul r≥ t1≥)) in
       let losses : leastConductorResistance ≤ n * (r + s + w) = omega (arith, mul-le-mul-right (r + s + w) n>0) in

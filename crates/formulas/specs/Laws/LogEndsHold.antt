@@ -12,9 +12,30 @@ use Rattle.exact.specs.Fraction.{Fraction, whole, _+F_, _*F_, reciprocal, _≤F
 use Rattle.exact.specs.Laws.Fraction.{≤F-refl, ≤F-trans, ≃F→≤F, ≃F-sym, +F-mono, *F-mono, *F-+F, whole-+F}
 use Rattle.exact.specs.Trillion.{trillion}
 use Rattle.formulas.specs.Constants.{tera}
-use Rattle.formulas.specs.Logarithm.{octaves, doubled, series, firstPower, termCount, thirteenTerms, zeta, artanhTerm, artanhSum, artanhRest}
+use Rattle.formulas.specs.Logarithm.{
+  octaves,
+  doubled,
+  series,
+  firstPower,
+  termCount,
+  thirteenTerms,
+  zeta,
+  artanhTerm,
+  artanhSum,
+  artanhRest,
+}
 use Rattle.formulas.specs.Laws.Octaves.{Largest, octaves-largest}
-use Rattle.formulas.specs.Laws.LogEndsSum.{termsFrom, odd-power, term-pos, sum-split, sum-terms, rest-covers, rest-pos, sum-mono, sum-rest}
+use Rattle.formulas.specs.Laws.LogEndsSum.{
+  termsFrom,
+  odd-power,
+  term-pos,
+  sum-split,
+  sum-terms,
+  rest-covers,
+  rest-pos,
+  sum-mono,
+  sum-rest,
+}
 use Rattle.formulas.specs.Laws.LogRange.{tera>0}
 
 -- The product of two powers over T, rounded either way.

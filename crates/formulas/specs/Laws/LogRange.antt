@@ -63,6 +63,10 @@ module _ {round : ℕ → ℕ → ℕ} (bounded : Bounded round) where
       p≤)
       (lit≤ tt)
 
+  -- what an end adds to its octaves
+  pub terms-most : (a b : ℕ) → 0 < b → b ≤ a → thirteenTerms round (firstPower round a b) ≤ mostTerms
+  terms-most a b b>0 b≤a = thirteenTerms-most (firstPower round a b) (firstPower-most a b b>0 b≤a)
+
 pub octaves-most : (a b : ℕ) → 0 < b → b ≤ a → a < 32768 * b → octaves a b ≤ 14
 octaves-most a b b>0 b≤a a< =
     let k : Largest a b (octaves a b) = octaves-largest a b b>0 b≤a in
@@ -71,21 +75,11 @@ octaves-most a b b>0 b≤a a< =
 
 pub logHigh-most : (a b : ℕ) → 0 < b → b ≤ a → a < 32768 * b → logHigh a b ≤ mostLog
 unfolding logHigh ln2High
-logHigh-most a b b>0 b≤a a< =
-    omega (
-      arith,
-      thirteenTerms-most up-bounded (firstPower up a b) (firstPower-most up-bounded a b b>0 b≤a),
-      octaves-most a b b>0 b≤a a<,
-    )
+logHigh-most a b b>0 b≤a a< = omega (arith, terms-most up-bounded a b b>0 b≤a, octaves-most a b b>0 b≤a a<)
 
 pub logLow-most : (a b : ℕ) → 0 < b → b ≤ a → a < 32768 * b → logLow a b ≤ mostLog
 unfolding logLow ln2Low
-logLow-most a b b>0 b≤a a< =
-    omega (
-      arith,
-      thirteenTerms-most down-bounded (firstPower down a b) (firstPower-most down-bounded a b b>0 b≤a),
-      octaves-most a b b>0 b≤a a<,
-    )
+logLow-most a b b>0 b≤a a< = omega (arith, terms-most down-bounded a b b>0 b≤a, octaves-most a b b>0 b≤a a<)
 
 thirteenTerms-least : (p : ℕ) → 2 * p ≤ thirteenTerms down p
 unfolding thirteenTerms series

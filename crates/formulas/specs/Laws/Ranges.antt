@@ -185,9 +185,12 @@ pub eddyRatioSquared-most : {m : ℕ} → m ≤ mostEddyRatio → eddyRatioSquar
 unfolding eddyRatioSquared tera
 eddyRatioSquared-most m≤ = up-least _ _ (lit< tt) (omega (arith, mul-le-mul m≤ m≤))
 
-pub eddyFactor-most : {m2 : ℕ} → m2 ≤ mostEddyFactor → eddyFactor m2 ≤ mostEddyFactor
+-- e', from B and Rs
+pub eddyFactor-most :
+    (b : ℕ) {rs : ℕ} → 0 < rs → 5 * b ≤ rs → eddyFactor (eddyRatioSquared (eddyRatio b rs)) ≤ mostEddyFactor
 unfolding eddyFactor tera
-eddyFactor-most m2≤ = up-least _ _ (omega arith) (omega arith)
+eddyFactor-most b rs>0 b≤ =
+    up-least _ _ (omega arith) (omega (arith, eddyRatioSquared-most (eddyRatio-most b rs>0 b≤)))
 
 pub eddySpacing-most : {d s : ℕ} → 0 < s → d ≤ s → eddySpacing d s ≤ mostEddySpacing
 unfolding eddySpacing tera
@@ -204,7 +207,7 @@ unfolding eddyLoss tera
 eddyLoss-most {j} {rs} {d} {s} b j≤ rs>0 rs≤ b≤ s>0 d≤s =
     let e' = eddyFactor (eddyRatioSquared (eddyRatio b rs)) in
     let inner≤ : up (rs * e') trillion ≤ 4070000000000 =
-    eddyInner-most rs≤ (eddyFactor-most (eddyRatioSquared-most (eddyRatio-most b rs>0 b≤)))
+    eddyInner-most rs≤ (eddyFactor-most b rs>0 b≤)
     in
     let j3≤ : 3 * j ≤ 6 = omega arith in
     let cores≤ : 3 * j * up (rs * e') trillion ≤ 6 * 4070000000000 = mul-le-mul j3≤ inner≤ in
@@ -276,7 +279,8 @@ dielectricRise-most n≤ wd≤ t1≤ t2≤ t3≤ t4≤ =
 
 -- The rise at unit current.
 
-pub unitRise-least : (n s w t2 t3 t4 : ℕ) {r t1 : ℕ} → leastConductorResistance ≤ r → 1000 ≤ t1 → leastUnitRise ≤ unitRise n r s w t1 t2 t3 t4
+pub unitRise-least :
+    (n s w t2 t3 t4 : ℕ) {r t1 : ℕ} → leastConductorResistance ≤ r → 1000 ≤ t1 → leastUnitRise ≤ unitRise n r s w t1 t2 t3 t4
 unfolding unitRise
 unitRise-least n s w t2 t3 t4 {r} {t1} r≥ t1≥ =
     let first : 36500000 ≤ up (r * t1) 1000000 = up-least-below _ _ (lit< tt) (omega (arith, mul-le-mul r≥ t1≥)) in

@@ -25,7 +25,8 @@ mul-mul-div-up-3 : tie.Need-mul-mul-div-up-3
 mul-mul-div-up-3 c = omega (arith, product-most c)
 
 mul-div-up-requires : tie.Need-mul-div-up-requires
-mul-div-up-requires c κs = (omega arith, fits-up mostDielectricLoss (omega arith) (omega (arith, mul-le-mul (product-most c) (c .pre .3))) tt)
+mul-div-up-requires c κs =
+    (omega arith, fits-up mostDielectricLoss (omega arith) (omega (arith, mul-le-mul (product-most c) (c .pre .3))) tt)
 
 returns : tie.Need-returns
 unfolding dielectricLoss

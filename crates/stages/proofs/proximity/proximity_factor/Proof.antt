@@ -30,7 +30,8 @@ add-mul-div-up-trillion : tie.Need-add-mul-div-up-trillion
 add-mul-div-up-trillion c = omega (arith, sum-most c)
 
 mul-div-up-trillion-requires : tie.Need-mul-div-up-trillion-requires
-mul-div-up-trillion-requires c κs = fits-up mostProximityFactor (lit< tt) (omega (arith, mul-le-mul (c .before .before .pre .0) (sum-most c))) tt
+mul-div-up-trillion-requires c κs =
+    fits-up mostProximityFactor (lit< tt) (omega (arith, mul-le-mul (c .before .before .pre .0) (sum-most c))) tt
 
 returns : tie.Need-returns
 unfolding proximityFactor tera

@@ -9,7 +9,7 @@ use Rattle.exact.specs.Laws.Rounding.{up-least}
 use Rattle.exact.specs.Trillion.{trillion}
 use Rattle.formulas.specs.Constants.{tera}
 use Rattle.formulas.specs.Sheath.{eddyLoss}
-use Rattle.formulas.specs.Laws.Ranges.{eddyRatio-most, eddyRatioSquared-most, eddyFactor-most, eddySpacing-most}
+use Rattle.formulas.specs.Laws.Ranges.{eddyFactor-most, eddySpacing-most}
 use Rattle.formulas.specs.Bounds.{mostEddySpacing, mostEddyInner, mostEddyFactor}
 use Rattle.stages.proofs.Quotients.{fits-up}
 use Prim.Native.Nat.{_*_, _≤_}
@@ -22,7 +22,7 @@ product-most c =
     let e≤ : c .eddy-factor .result ≤ mostEddyFactor =
     omega (
       arith,
-      eddyFactor-most (eddyRatioSquared-most (eddyRatio-most (c .before .args .b) (pre .1) (pre .3))),
+      eddyFactor-most (c .before .args .b) (pre .1) (pre .3),
       c .eddy-factor .ensures,
     )
     in

@@ -43,6 +43,10 @@ module _ {round : ℕ → ℕ → ℕ} (bounded : Bounded round) where
         alive = λ j>0. absurd (omega (arith, j>0));
       }
 
+  -- the next power fits a limb
+  pub next-fits : {first q p sum j : ℕ} → Summed round first q p sum j → round (p * q) trillion < 2 ^ 64
+  next-fits {q = q} {p} s = fits (product-most p q (s .power) (s .ratio))
+
   -- a power above 0 is not made by a ratio of 0
   ratio-above : (p q : ℕ) → 0 < round (p * q) trillion → 0 < q
   ratio-above p zero next>0 = absurd (omega (arith, bounded (p * 0) 0 trillion (omega arith) (omega arith)))

@@ -31,19 +31,6 @@ y2-most : (c : tie.After-mul-div-down-trillion) → c .mul-div-down-trillion .re
 y2-most c =
     omega (arith, y2-is c, armourRatioSquared-most (armourRatio-most (c .before .before .pre .0) (c .before .before .pre .1)))
 
-mul-div-down-requires : tie.Need-mul-div-down-requires
-mul-div-down-requires c κs = (omega arith, fits-down mostArmourRatio (omega arith) (omega arith) tt)
-
-mul-div-down-trillion-requires : tie.Need-mul-div-down-trillion-requires
-mul-div-down-trillion-requires c κs = fits-down mostArmourRatioSquared (lit< tt) (omega (arith, mul-le-mul (y-most c) (y-most c))) tt
-
-add-mul-div-up : tie.Need-add-mul-div-up
-add-mul-div-up c = omega (arith, y2-most c)
-
-mul-div-up-requires : tie.Need-mul-div-up-requires
-mul-div-up-requires c κs =
-    (omega arith, fits-up mostResistance (omega arith) (omega (arith, c .before .before .pre .0)) tt)
-
 returns : tie.Need-returns
 unfolding reducedArmourResistance tera
 returns c =
@@ -53,4 +40,8 @@ returns c =
 pub reduced-armour-resistance-spec : {M : Type 1} → statement M
 reduced-armour-resistance-spec =
     tie.close
-    (tie.spec mul-div-down-requires mul-div-down-trillion-requires add-mul-div-up mul-div-up-requires returns)
+    (tie.spec (λ c κs. (omega arith, fits-down mostArmourRatio (omega arith) (omega arith) tt))
+    (λ c κs. fits-down mostArmourRatioSquared (lit< tt) (omega (arith, mul-le-mul (y-most c) (y-most c))) tt)
+    (λ c. omega (arith, y2-most c))
+    (λ c κs. (omega arith, fits-up mostResistance (omega arith) (omega (arith, c .before .before .pre .0)) tt))
+    returns)

@@ -27,12 +27,6 @@ share-is c =
     c .mul-div-up .ensures
     ∙ ap (λ v2. up (trillion * trillion) (trillion + v2)) (c .before .screening-ratio-squared .ensures)
 
-add-mul-div-up : tie.Need-add-mul-div-up
-add-mul-div-up c = omega (arith, v2-most c)
-
-mul-div-up-requires : tie.Need-mul-div-up-requires
-mul-div-up-requires c κs = (omega arith, fits-up trillion (omega arith) (omega arith) tt)
-
 mul-div-up-trillion-requires : tie.Need-mul-div-up-trillion-requires
 mul-div-up-trillion-requires c κs =
     let share≤ : c .mul-div-up .result ≤ trillion = omega (arith, share-is c, screening-most (screening c)) in
@@ -47,4 +41,5 @@ returns c =
 pub screened-loss-spec : {M : Type 1} → statement M
 screened-loss-spec =
     tie.close
-    (tie.spec (λ c κs. search needs) add-mul-div-up mul-div-up-requires mul-div-up-trillion-requires returns)
+    (tie.spec (λ c κs. search needs) (λ c. omega (arith, v2-most c))
+    (λ c κs. (omega arith, fits-up trillion (omega arith) (omega arith) tt)) mul-div-up-trillion-requires returns)

@@ -29,22 +29,10 @@ r-most c =
     let args = c .before .before .args in
     omega (arith, reducedArmourResistance-most (args .ra) (args .b), c .reduced-armour-resistance .ensures, c .before .before .pre .0)
 
-mul-mul-div-up : tie.Need-mul-mul-div-up
-mul-mul-div-up c = omega (arith, c-squared c)
-
-mul-mul-div-up-2 : tie.Need-mul-mul-div-up-2
-mul-mul-div-up-2 c = omega (arith, c-squared c)
-
-mul-mul-div-up-3 : tie.Need-mul-mul-div-up-3
-mul-mul-div-up-3 c = omega (arith, mul-le-mul (c .pre .3) (c .pre .3))
-
 mul-div-up-requires : tie.Need-mul-div-up-requires
 mul-div-up-requires c κs =
     let da²>0 = mul-pos (c .pre .2) (c .pre .2) in
     (da²>0, fits-up trillion da²>0 (omega (arith, mul-le-mul (c .pre .4) (c .pre .4))) tt)
-
-mul-mul-div-up-4 : tie.Need-mul-mul-div-up-4
-mul-mul-div-up-4 c = omega (arith, r-most c)
 
 mul-div-up-requires-2 : tie.Need-mul-div-up-requires-2
 mul-div-up-requires-2 c κs =
@@ -63,5 +51,6 @@ returns c =
 pub unscreened-loss-spec : {M : Type 1} → statement M
 unscreened-loss-spec =
     tie.close
-    (tie.spec mul-mul-div-up mul-mul-div-up-2 mul-mul-div-up-3 mul-div-up-requires (λ c κs. search needs)
-    mul-mul-div-up-4 mul-div-up-requires-2 returns)
+    (tie.spec (λ c. omega (arith, c-squared c)) (λ c. omega (arith, c-squared c))
+    (λ c. omega (arith, mul-le-mul (c .pre .3) (c .pre .3))) mul-div-up-requires (λ c κs. search needs)
+    (λ c. omega (arith, r-most c)) mul-div-up-requires-2 returns)

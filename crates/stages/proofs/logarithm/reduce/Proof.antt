@@ -7,7 +7,6 @@ use native.Mathlib.Numerals.{add-one}
 use native.Mathlib.Omega.{arith}
 use Rattle.formulas.specs.Logarithm.{octaves, doubled}
 use Rattle.formulas.specs.Laws.Octaves.{Largest, largest-only, octaves-largest}
-use Rattle.stages.specs.Reduced.{IsReduced}
 use Rattle.stages.proofs.logarithm.reduce.Statement.{statement}
 use Rattle.stages.proofs.logarithm.reduce.Tie as tie
 

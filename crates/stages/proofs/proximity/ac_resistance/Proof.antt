@@ -17,9 +17,9 @@ mul-div-up-trillion-requires c κs =
     let sum≤ : trillion + c .args .ys + c .args .yp ≤ 1934900000000 = omega arith in
     fits-up mostAcResistance (lit< tt) (omega (arith, mul-le-mul (c .pre .0) sum≤)) tt
 
-returns : tie.Need-returns
-unfolding acResistance tera
-returns c = c .mul-div-up-trillion .ensures
-
 pub ac-resistance-spec : {M : Type 1} → statement M
-ac-resistance-spec = tie.close (tie.spec (λ c. search needs) (λ c. search needs) mul-div-up-trillion-requires returns)
+unfolding acResistance tera
+ac-resistance-spec =
+    tie.close
+    (tie.spec (λ c. search needs) (λ c. search needs) mul-div-up-trillion-requires
+    (λ c. c .mul-div-up-trillion .ensures))

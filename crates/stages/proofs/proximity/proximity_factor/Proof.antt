@@ -26,9 +26,6 @@ sum-most c =
       c .proximity-h .ensures,
     )
 
-add-mul-div-up-trillion : tie.Need-add-mul-div-up-trillion
-add-mul-div-up-trillion c = omega (arith, sum-most c)
-
 mul-div-up-trillion-requires : tie.Need-mul-div-up-trillion-requires
 mul-div-up-trillion-requires c κs =
     fits-up mostProximityFactor (lit< tt) (omega (arith, mul-le-mul (c .before .before .pre .0) (sum-most c))) tt
@@ -43,5 +40,5 @@ returns c =
 pub proximity-factor-spec : {M : Type 1} → statement M
 proximity-factor-spec =
     tie.close
-    (tie.spec (λ c κs. search needs) (λ c κs. search needs) add-mul-div-up-trillion mul-div-up-trillion-requires
-    returns)
+    (tie.spec (λ c κs. search needs) (λ c κs. search needs) (λ c. omega (arith, sum-most c))
+    mul-div-up-trillion-requires returns)

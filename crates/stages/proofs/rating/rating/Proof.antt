@@ -9,9 +9,6 @@ use Rattle.stages.proofs.Quotients.{fits-down}
 use Rattle.stages.proofs.rating.rating.Statement.{statement}
 use Rattle.stages.proofs.rating.rating.Tie as tie
 
-mul-div-down-requires : tie.Need-mul-div-down-requires
-mul-div-down-requires c κs = (omega arith, fits-down 80000000000000000 (omega arith) (omega arith) tt)
-
 returns : tie.Need-returns
 unfolding rating
 returns c =
@@ -20,4 +17,7 @@ returns c =
     root-only (record { below = p .0; above = p .1 }) (root-is q) ∙ ap root (c .before .mul-div-down .ensures)
 
 pub rating-spec : {M : Type 1} → statement M
-rating-spec = tie.close (tie.spec mul-div-down-requires (λ c κs. search needs) returns)
+rating-spec =
+    tie.close
+    (tie.spec (λ c κs. (omega arith, fits-down 80000000000000000 (omega arith) (omega arith) tt))
+    (λ c κs. search needs) returns)

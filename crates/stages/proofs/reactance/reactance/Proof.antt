@@ -8,9 +8,7 @@ use Prim.Native.Nat.{_*_}
 use Rattle.stages.proofs.reactance.reactance.Statement.{statement}
 use Rattle.stages.proofs.reactance.reactance.Tie as tie
 
-returns : tie.Need-returns
-unfolding reactance piHigh
-returns c = sym (up-code (c .args .f * 31415926536) 250)
-
 pub reactance-spec : {M : Type 1} → statement M
-reactance-spec = tie.close (tie.spec (λ c. search needs) (λ c. search needs) returns)
+unfolding reactance piHigh
+reactance-spec =
+    tie.close (tie.spec (λ c. search needs) (λ c. search needs) (λ c. sym (up-code (c .args .f * 31415926536) 250)))

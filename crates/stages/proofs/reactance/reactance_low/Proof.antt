@@ -8,9 +8,6 @@ use Prim.Native.Nat.{_*_}
 use Rattle.stages.proofs.reactance.reactance_low.Statement.{statement}
 use Rattle.stages.proofs.reactance.reactance_low.Tie as tie
 
-returns : tie.Need-returns
-unfolding reactanceLow piLow
-returns c = sym (down-code (c .args .f * 31415926535) 250)
-
 pub reactance-low-spec : {M : Type 1} → statement M
-reactance-low-spec = tie.close (tie.spec (λ c. search needs) returns)
+unfolding reactanceLow piLow
+reactance-low-spec = tie.close (tie.spec (λ c. search needs) (λ c. sym (down-code (c .args .f * 31415926535) 250)))

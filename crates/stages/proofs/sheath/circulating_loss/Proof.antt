@@ -19,9 +19,6 @@ v2-most c =
     omega
     (arith, bondRatioSquared-most (bondRatio-most (c .before .pre .0) (c .before .pre .1)), c .bond-ratio-squared .ensures)
 
-add-mul-div-up : tie.Need-add-mul-div-up
-add-mul-div-up c = omega (arith, v2-most c)
-
 mul-div-up-requires : tie.Need-mul-div-up-requires
 mul-div-up-requires c κs =
     let rs = c .before .args .rs in
@@ -35,4 +32,5 @@ returns c =
     ∙ ap (λ v2. up (c .before .before .args .rs * v2) (trillion + v2)) (c .before .bond-ratio-squared .ensures)
 
 pub circulating-loss-spec : {M : Type 1} → statement M
-circulating-loss-spec = tie.close (tie.spec (λ c κs. search needs) add-mul-div-up mul-div-up-requires returns)
+circulating-loss-spec =
+    tie.close (tie.spec (λ c κs. search needs) (λ c. omega (arith, v2-most c)) mul-div-up-requires returns)

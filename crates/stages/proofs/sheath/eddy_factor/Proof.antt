@@ -33,25 +33,12 @@ m2-most c =
     let pre = c .before .before .pre in
     omega (arith, m2-is c, eddyRatioSquared-most (eddyRatio-most (c .before .before .args .b) (pre .0) (pre .2)))
 
-mul-div-up-requires : tie.Need-mul-div-up-requires
-mul-div-up-requires c κs = (omega arith, fits-up mostEddyRatio (omega arith) (omega arith) tt)
-
-mul-div-up-trillion-requires : tie.Need-mul-div-up-trillion-requires
-mul-div-up-trillion-requires c κs = fits-up mostEddyFactor (lit< tt) (omega (arith, mul-le-mul (m-most c) (m-most c))) tt
-
-add-mul-div-up : tie.Need-add-mul-div-up
-add-mul-div-up c = omega (arith, m2-most c)
-
-mul-div-up-requires-2 : tie.Need-mul-div-up-requires-2
-mul-div-up-requires-2 c κs = (omega arith, fits-up mostEddyFactor (omega arith) (omega (arith, m2-most c)) tt)
-
-returns : tie.Need-returns
-unfolding eddyFactor tera
-returns c =
-    c .mul-div-up2 .ensures ∙ ap (λ m2. up (m2 * trillion) (trillion + m2)) (m2-is (c .before))
-
 pub eddy-factor-spec : {M : Type 1} → statement M
+unfolding eddyFactor tera
 eddy-factor-spec =
     tie.close
-    (tie.spec (λ c. search needs) mul-div-up-requires mul-div-up-trillion-requires add-mul-div-up
-    mul-div-up-requires-2 returns)
+    (tie.spec (λ c. search needs) (λ c κs. (omega arith, fits-up mostEddyRatio (omega arith) (omega arith) tt))
+    (λ c κs. fits-up mostEddyFactor (lit< tt) (omega (arith, mul-le-mul (m-most c) (m-most c))) tt)
+    (λ c. omega (arith, m2-most c))
+    (λ c κs. (omega arith, fits-up mostEddyFactor (omega arith) (omega (arith, m2-most c)) tt))
+    (λ c. c .mul-div-up2 .ensures ∙ ap (λ m2. up (m2 * trillion) (trillion + m2)) (m2-is (c .before))))

@@ -38,12 +38,6 @@ cores-most c =
     in
     mul-le-mul j≤ inner≤
 
-mul-div-up-trillion-requires : tie.Need-mul-div-up-trillion-requires
-mul-div-up-trillion-requires c κs = fits-up mostEddyInner (lit< tt) (product-most c) tt
-
-mul-mul-div-up-trillion-2 : tie.Need-mul-mul-div-up-trillion-2
-mul-mul-div-up-trillion-2 c = omega (arith, cores-most c)
-
 mul-div-up-trillion-requires-2 : tie.Need-mul-div-up-trillion-requires-2
 mul-div-up-trillion-requires-2 c κs =
     let pre = c .before .before .before .pre in
@@ -63,5 +57,5 @@ returns c =
 pub eddy-loss-spec : {M : Type 1} → statement M
 eddy-loss-spec =
     tie.close
-    (tie.spec (λ c κs. search needs) mul-div-up-trillion-requires (λ c. search needs) mul-mul-div-up-trillion-2
-    (λ c κs. search needs) mul-div-up-trillion-requires-2 returns)
+    (tie.spec (λ c κs. search needs) (λ c κs. fits-up mostEddyInner (lit< tt) (product-most c) tt) (λ c. search needs)
+    (λ c. omega (arith, cores-most c)) (λ c κs. search needs) mul-div-up-trillion-requires-2 returns)

@@ -8,23 +8,15 @@ use Rattle.stages.proofs.Quotients.{fits-up}
 use Rattle.stages.proofs.sheath.eddy_spacing.Statement.{statement}
 use Rattle.stages.proofs.sheath.eddy_spacing.Tie as tie
 
-mul-mul-div-up : tie.Need-mul-mul-div-up
-mul-mul-div-up c = omega (arith, mul-le-mul (c .pre .2) (c .pre .2), mul-le-mul (c .pre .1) (c .pre .1))
-
-mul-mul-div-up-2 : tie.Need-mul-mul-div-up-2
-mul-mul-div-up-2 c = omega (arith, mul-le-mul (c .pre .1) (c .pre .1))
-
-mul-mul-div-up-3 : tie.Need-mul-mul-div-up-3
-mul-mul-div-up-3 c = omega (arith, mul-le-mul (c .pre .1) (c .pre .1))
-
 mul-div-up-requires : tie.Need-mul-div-up-requires
 mul-div-up-requires c κs =
     let s²>0 = mul-pos (c .pre .0) (c .pre .0) in
     (omega arith, fits-up mostEddySpacing (omega arith) (omega (arith, mul-le-mul (c .pre .2) (c .pre .2))) tt)
 
-returns : tie.Need-returns
-unfolding eddySpacing tera
-returns c = c .mul-div-up .ensures
-
 pub eddy-spacing-spec : {M : Type 1} → statement M
-eddy-spacing-spec = tie.close (tie.spec mul-mul-div-up mul-mul-div-up-2 mul-mul-div-up-3 mul-div-up-requires returns)
+unfolding eddySpacing tera
+eddy-spacing-spec =
+    tie.close
+    (tie.spec (λ c. omega (arith, mul-le-mul (c .pre .2) (c .pre .2), mul-le-mul (c .pre .1) (c .pre .1)))
+    (λ c. omega (arith, mul-le-mul (c .pre .1) (c .pre .1))) (λ c. omega (arith, mul-le-mul (c .pre .1) (c .pre .1)))
+    mul-div-up-requires (λ c. c .mul-div-up .ensures))

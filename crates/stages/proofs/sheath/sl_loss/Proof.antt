@@ -16,15 +16,10 @@ s-most c =
     omega
     (arith, circulatingLoss-most (c .before .args .x) (c .before .args .rs), c .circulating-loss .ensures, c .before .pre .2)
 
-mul-result : tie.Need-mul-result
-mul-result c = omega (arith, s-most c)
-
-add-result : tie.Need-add-result
-add-result c = omega (arith, s-most c)
-
 returns : tie.Need-returns
 unfolding slLoss threeHalves
 returns c = sym (up-code (3 * c .circulating-loss .result) 2) ∙ ap (λ s. up (3 * s) 2) (c .circulating-loss .ensures)
 
 pub sl-loss-spec : {M : Type 1} → statement M
-sl-loss-spec = tie.close (tie.spec (λ c κs. search needs) mul-result add-result returns)
+sl-loss-spec =
+    tie.close (tie.spec (λ c κs. search needs) (λ c. omega (arith, s-most c)) (λ c. omega (arith, s-most c)) returns)

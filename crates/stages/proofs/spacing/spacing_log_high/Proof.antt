@@ -9,14 +9,13 @@ use Rattle.formulas.specs.Laws.LogRange.{logHigh-most}
 use Rattle.stages.proofs.spacing.spacing_log_high.Statement.{statement}
 use Rattle.stages.proofs.spacing.spacing_log_high.Tie as tie
 
-with-third-requires : tie.Need-with-third-requires
-with-third-requires c κs =
-    let pre = c .before .pre in
-    omega (arith, c .log-high .ensures, logHigh-most _ _ (pre .0) (pre .1) (pre .3))
-
 returns : tie.Need-returns
 unfolding spacingLogHigh ln2ThirdHigh
 returns c = c .with-third .ensures ∙ ap (λ log. log + thirdOf (c .before .before .args .arrangement) 231049060187) (c .before .log-high .ensures)
 
 pub spacing-log-high-spec : {M : Type 1} → statement M
-spacing-log-high-spec = tie.close (tie.spec (λ c. search needs) (λ c κs. search needs) with-third-requires returns)
+spacing-log-high-spec =
+    tie.close
+    (tie.spec (λ c. search needs) (λ c κs. search needs)
+    (λ c κs. let pre = c .before .pre in omega (arith, c .log-high .ensures, logHigh-most _ _ (pre .0) (pre .1) (pre .3)))
+    returns)

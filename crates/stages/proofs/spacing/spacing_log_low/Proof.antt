@@ -9,14 +9,13 @@ use Rattle.formulas.specs.Laws.LogRange.{logLow-most}
 use Rattle.stages.proofs.spacing.spacing_log_low.Statement.{statement}
 use Rattle.stages.proofs.spacing.spacing_log_low.Tie as tie
 
-with-third-requires : tie.Need-with-third-requires
-with-third-requires c κs =
-    let pre = c .before .pre in
-    omega (arith, c .log-low .ensures, logLow-most _ _ (pre .0) (pre .1) (pre .3))
-
 returns : tie.Need-returns
 unfolding spacingLogLow ln2ThirdLow
 returns c = c .with-third .ensures ∙ ap (λ log. log + thirdOf (c .before .before .args .arrangement) 231049060186) (c .before .log-low .ensures)
 
 pub spacing-log-low-spec : {M : Type 1} → statement M
-spacing-log-low-spec = tie.close (tie.spec (λ c. search needs) (λ c κs. search needs) with-third-requires returns)
+spacing-log-low-spec =
+    tie.close
+    (tie.spec (λ c. search needs) (λ c κs. search needs)
+    (λ c κs. let pre = c .before .pre in omega (arith, c .log-low .ensures, logLow-most _ _ (pre .0) (pre .1) (pre .3)))
+    returns)

@@ -5,11 +5,8 @@ use borrow.Author.Tests.{eq-eqb, ne-eqb}
 use Rattle.stages.proofs.spacing.with_third.Statement.{statement}
 use Rattle.stages.proofs.spacing.with_third.Tie as tie
 
-returns : tie.Need-returns
-returns c = simp (eq-eqb _ _ (c .if1 .taken))
-
-returns-2 : tie.Need-returns-2
-returns-2 c = simp (ne-eqb _ _ (c .if1 .left), add-zero)
-
 pub with-third-spec : {M : Type 1} → statement M
-with-third-spec = tie.close (tie.spec (λ c. search needs) returns returns-2)
+with-third-spec =
+    tie.close
+    (tie.spec (λ c. search needs) (λ c. simp (eq-eqb _ _ (c .if1 .taken)))
+    (λ c. simp (ne-eqb _ _ (c .if1 .left), add-zero)))

@@ -43,12 +43,6 @@ u-below c =
     let a = c .before .args in
     top-below (a .hi) (a .lo) (a .c) (c .shift-of .result) (c .before .pre) (omega arith) (c .shift-of .ensures)
 
-add-u : tie.Need-add-u
-add-u c = omega (arith, u-below c)
-
-digit-requires : tie.Need-digit-requires
-digit-requires c κs = let below = u-below c in (omega arith, omega arith, omega arith)
-
 answer : (c : tie.After-digit2) →
     let a = c .before .before .before .args in
     Split (a .hi * 2 ^ 64 + a .lo) (a .c)
@@ -69,18 +63,12 @@ quotient-fits c =
     let at-start = c .before .before .before in
     one-limb (at-start .args .hi) (at-start .args .lo) (at-start .pre) (omega arith) (answer c)
 
-mul-t15 : tie.Need-mul-t15
-mul-t15 c = omega (arith, quotient-fits (c .before))
-
-add-t10 : tie.Need-add-t10
-add-t10 c = record { fits = quotient-fits (c .before .before) }
-
-returns : tie.Need-returns
-returns c = answer (c .before .before .before)
-
 pub long-division-spec : {M : Type 1} → statement M
 long-division-spec =
     tie.close
     (tie.spec (λ c κs. search needs) (λ c. search needs) (λ c. search needs) (λ c. search needs) (λ c. search needs)
-    (λ c. search needs) (λ c. search needs) (λ c. search needs) add-u (λ c. search needs) (λ c. search needs)
-    digit-requires (λ c κs. search needs) mul-t15 add-t10 (λ c. search needs) (λ c. search needs) returns)
+    (λ c. search needs) (λ c. search needs) (λ c. search needs) (λ c. omega (arith, u-below c)) (λ c. search needs)
+    (λ c. search needs) (λ c κs. let below = u-below c in (omega arith, omega arith, omega arith))
+    (λ c κs. search needs) (λ c. omega (arith, quotient-fits (c .before)))
+    (λ c. record { fits = quotient-fits (c .before .before) }) (λ c. search needs) (λ c. search needs)
+    (λ c. answer (c .before .before .before)))

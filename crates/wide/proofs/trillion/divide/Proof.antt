@@ -9,11 +9,9 @@ use Rattle.wide.proofs.trillion.divide.Tie as tie
 returns : tie.Need-returns
 returns c = divided-low (c .before .args .hi) (c .before .args .lo) (2 ^ 64) (c .if1 .taken) (omega arith)
 
-returns-2 : tie.Need-returns-2
-returns-2 c = record { whole = omega arith; below = omega arith }
-
 pub divide-spec : {M : Type 1} → statement M
 divide-spec =
     tie.close
     (tie.spec returns (λ c. omega arith) (λ c. omega arith) (λ c. omega arith) (λ c. omega arith) (λ c. omega arith)
-    (λ c. omega arith) (λ c. omega arith) (λ c. omega arith) returns-2)
+    (λ c. omega arith) (λ c. omega arith) (λ c. omega arith)
+    (λ c. record { whole = omega arith; below = omega arith }))

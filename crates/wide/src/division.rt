@@ -1,6 +1,7 @@
 // Division of a two-limb number by one limb, where the quotient is one limb: long division with digits of 32 bits.
 ghost use mathlib.Core.Path.{_≡_};
 ghost use Prim.Native.Nat.{_+_, _-_, _*_, _^_, _≤_, _<_};
+ghost use Rattle.wide.specs.Shift.{IsShift};
 ghost use Rattle.wide.specs.Split.{Split, upward};
 
 pub struct Divided {
@@ -11,7 +12,7 @@ pub struct Divided {
 // The shift that brings the top bit of c to bit 63.
 pub fn shift_of(c: u64) -> u32
     requires { ⌜ 0 < c ⌝ }
-    ensures { λ r. ⌜ (r < 64) × (2 ^ 63 ≤ c * 2 ^ r) × (c * 2 ^ r < 2 ^ 64) ⌝ }
+    ensures { λ r. ⌜ IsShift c r ⌝ }
 {
     u64::leading_zeros(c)
 }

@@ -120,21 +120,21 @@ unscreened-close c {π} {f} {ra} {dA} pi range ra-in dA>0 c≤ =
 -- The loss itself.
 
 pub armour-close :
-    (c : ℕ) {π x* : Fraction} {f ra dA x rs : ℕ} → IsPi π → In 1000 6500 f → In leastSheathResistance mostResistance ra → 0 < dA →
-    2 * c ≤ dA → leastSheathReactanceLow ≤ x → In leastSheathResistance mostResistance rs → Within 6000 (whole 1) (whole x) x* →
-    Within 22694 (whole 1005) (armourLoss* ra (reactance* π f) c dA x* rs) (whole (armourLoss ra (reactance f) c dA x rs))
+    (c : ℕ) {π X* : Fraction} {f ra dA X rs : ℕ} → IsPi π → In 1000 6500 f → In leastSheathResistance mostResistance ra → 0 < dA →
+    2 * c ≤ dA → leastSheathReactanceLow ≤ X → In leastSheathResistance mostResistance rs → Within 6000 (whole 1) (whole X) X* →
+    Within 22694 (whole 1005) (armourLoss* ra (reactance* π f) c dA X* rs) (whole (armourLoss ra (reactance f) c dA X rs))
 unfolding armourLoss armourLoss* screenedLoss tera _+F_ _*F_
-armour-close c {π} {x*} {f} {ra} {dA} {x} {rs} pi range ra-in dA>0 c≤ x≥ rs-in p =
+armour-close c {π} {X*} {f} {ra} {dA} {X} {rs} pi range ra-in dA>0 c≤ X≥ rs-in p =
     let w = unscreenedLoss ra (reactance f) c dA in
-    let s = up (10 ^ 12 * 10 ^ 12) (10 ^ 12 + screeningRatioSquared x rs) in
+    let s = up (10 ^ 12 * 10 ^ 12) (10 ^ 12 + screeningRatioSquared X rs) in
     let w≤ : whole w ≤F whole mostArmourLoss =
     record { left = lit< tt; right = lit< tt; across = omega (arith, unscreenedLoss-most (reactance f) c (ra-in .most) dA>0 c≤) }
     in
-    let ratio>0 : 0 < (x* /F whole rs) .den = screeningRatio-close x≥ rs-in p .below .right in
+    let ratio>0 : 0 < (X* /F whole rs) .den = screeningRatio-close X≥ rs-in p .below .right in
     let both =
-    within-product (screening-share-most (x* /F whole rs) ratio>0) w≤
+    within-product (screening-share-most (X* /F whole rs) ratio>0) w≤
     (unscreened-close c pi range ra-in dA>0 c≤)
-    (screening-close x≥ rs-in p)
+    (screening-close X≥ rs-in p)
     in
     let upper : whole w *F (s over 10 ^ 12) ≃F w * s over 10 ^ 12 =
     record { left = lit< tt; right = lit< tt; across = omega arith }

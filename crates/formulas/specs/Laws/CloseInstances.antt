@@ -153,46 +153,46 @@ r-close : Within 1000 (whole 0) r* (whole r)
 unfolding skinRatio skinReactance piHigh tera up
 r-close = resistance-close is-pi frequency skin proximity conductor (lit≤ tt) (lit≤ tt) (lit< tt) (lit≤ tt)
 
-abbrev x : ℕ
-x = sheathReactance (reactance 5000) (spacingLogHigh 5 4200 4000)
+abbrev X : ℕ
+X = sheathReactance (reactance 5000) (spacingLogHigh 5 4200 4000)
 
-abbrev x* : Fraction
-x* = sheathReactance* (reactance* π 5000) (spacingLog* 5 log-spacing ln2)
+abbrev X* : Fraction
+X* = sheathReactance* (reactance* π 5000) (spacingLog* 5 log-spacing ln2)
 
-x-close : Within 200 (whole 0) x* (whole x)
-x-close = sheathReactance-close 5 is-pi is-ln2 frequency is-log-spacing (lit< tt) (lit≤ tt) (lit< tt)
+X-close : Within 200 (whole 0) X* (whole X)
+X-close = sheathReactance-close 5 is-pi is-ln2 frequency is-log-spacing (lit< tt) (lit≤ tt) (lit< tt)
 
-x-least : leastSheathReactance ≤ x
-x-least = sheathReactance-least (reactance-range frequency .least) (spacingLogHigh-least 5 (lit< tt) (lit≤ tt))
+X-least : leastSheathReactance ≤ X
+X-least = sheathReactance-least (reactance-range frequency .least) (spacingLogHigh-least 5 (lit< tt) (lit≤ tt))
 
-circulating : Within 9800 (whole 408) (circulatingLoss* x* rs) (whole (circulatingLoss x rs))
-circulating = circulating-close x-least sheath x-close
+circulating : Within 9800 (whole 408) (circulatingLoss* X* rs) (whole (circulatingLoss X rs))
+circulating = circulating-close X-least sheath X-close
 
 eddies :
     Within 13080 (whole 1248) (eddyLoss* 1 (reactance* π 5000) rs 4000 4200) (whole (eddyLoss 1 (reactance 5000) rs 4000 4200))
 unfolding reactance piHigh up
 eddies = eddy-close is-pi frequency sheath (lit≤ tt) (lit≤ tt) (lit< tt) (lit≤ tt)
 
-s-close : Within 9800 (whole 613) (slLoss* x* rs) (whole (slLoss x rs))
-s-close = sl-close x-least sheath x-close
+s-close : Within 9800 (whole 613) (slLoss* X* rs) (whole (slLoss X rs))
+s-close = sl-close X-least sheath X-close
 
-abbrev x- : ℕ
-x- = sheathReactanceLow (reactanceLow 5000) (spacingLogLow 5 4200 4000)
+abbrev X- : ℕ
+X- = sheathReactanceLow (reactanceLow 5000) (spacingLogLow 5 4200 4000)
 
-x-low : Within 6000 (whole 1) (whole x-) x*
-x-low =
+X-low : Within 6000 (whole 1) (whole X-) X*
+X-low =
     within-weaken (lit≤ tt) (≤F-refl (whole 1) (lit< tt))
     (sheathReactanceLow-close 5 is-pi is-ln2 frequency is-log-spacing (lit< tt) (lit≤ tt) (lit< tt))
 
 abbrev w : ℕ
-w = armourLoss ra (reactance 5000) 2500 11000 x- rs
+w = armourLoss ra (reactance 5000) 2500 11000 X- rs
 
 abbrev w* : Fraction
-w* = armourLoss* ra (reactance* π 5000) 2500 11000 x* rs
+w* = armourLoss* ra (reactance* π 5000) 2500 11000 X* rs
 
 w-close : Within 22694 (whole 1005) w* (whole w)
 w-close =
-    armour-close 2500 is-pi frequency armour (lit< tt) (lit≤ tt) (sheathReactanceLow-least 5 (lit≤ tt) (lit< tt) (lit≤ tt)) sheath x-low
+    armour-close 2500 is-pi frequency armour (lit< tt) (lit≤ tt) (sheathReactanceLow-least 5 (lit≤ tt) (lit< tt) (lit≤ tt)) sheath X-low
 
 -- dd and E
 
@@ -208,10 +208,10 @@ dd-close =
     (loss-close 350 19000 1000 is-pi frequency is-log-insulation (lit< tt) (lit≤ tt) (lit< tt))
 
 abbrev e : ℕ
-e = unitRise 3 r (slLoss x rs) w 350000 40000 60000 450000
+e = unitRise 3 r (slLoss X rs) w 350000 40000 60000 450000
 
 abbrev e* : Fraction
-e* = unitRise* 3 r* (slLoss* x* rs) w* 350000 40000 60000 450000
+e* = unitRise* 3 r* (slLoss* X* rs) w* 350000 40000 60000 450000
 
 r-least : leastConductorResistance ≤ r
 unfolding acResistance skinFactor factor skinRatioSquared skinRatio skinReactance proximityFactor proximityG

@@ -88,39 +88,39 @@ spacingRatio-close dc {s} s>0 =
     in
     round-up ss>0 (rewrite-above same no-units (within-refl (≤F-refl (dc * dc over s * s) ss>0)))
 
-pub proximityH-close : {x : Fraction} {g : ℕ} → Close 132 2 x g → Close 132 10 (proximityH* x) (proximityH g)
+pub proximityH-close : {x : Fraction} {G : ℕ} → Close 132 2 x G → Close 132 10 (proximityH* x) (proximityH G)
 unfolding proximityH proximityH*
-proximityH-close {x} {g} p =
-    let bottom>0 : 0 < 100 * g + 27 * tera = omega (arith, tera>0) in
-    let same : 118 * g * tera over (27 * tera + 100 * g) * tera ≃F 118 * g * tera over (100 * g + 27 * tera) * tera =
+proximityH-close {x} {G} p =
+    let bottom>0 : 0 < 100 * G + 27 * tera = omega (arith, tera>0) in
+    let same : 118 * G * tera over (27 * tera + 100 * G) * tera ≃F 118 * G * tera over (100 * G + 27 * tera) * tera =
     record { left = mul-pos (omega arith) tera>0; right = mul-pos bottom>0 tera>0; across = omega arith }
     in
     rw (+F-comm (whole 100 *F x) (whole 27))
     (round-up bottom>0 (rewrite-above same (≤F-refl _ tera>0) (saturate-times 118 27 100 {d = 9} (lit< tt) (lit≤ tt) p)))
 
 pub proximityG-close :
-    {x y : Fraction} {u g : ℕ} → u ≤ trillion → g ≤ mostSkinFactor → Close 0 1 x u → Close 132 2 y g →
-    Close 132 4 (proximityG* x y) (proximityG u g)
+    {x y : Fraction} {u G : ℕ} → u ≤ trillion → G ≤ mostSkinFactor → Close 0 1 x u → Close 132 2 y G →
+    Close 132 4 (proximityG* x y) (proximityG u G)
 unfolding proximityG proximityG* tera _*F_
-proximityG-close {x} {y} {u} {g} u≤ g≤ p q =
+proximityG-close {x} {y} {u} {G} u≤ G≤ p q =
     let k = 312 over 1000 in
-    let product : Within 132 (3 over tera) (x *F y) (u * g over tera * tera) = product-close u≤ (omega arith) p q in
-    let same : (u * g over tera * tera) *F k ≃F 312 * u * g over 10 ^ 15 * tera =
+    let product : Within 132 (3 over tera) (x *F y) (u * G over tera * tera) = product-close u≤ (omega arith) p q in
+    let same : (u * G over tera * tera) *F k ≃F 312 * u * G over 10 ^ 15 * tera =
     record { left = lit< tt; right = lit< tt; across = omega arith }
     in
     let errors : (3 over tera) *F k ≤F 3 over tera = closed≤ tt in
-    let scaled : Within 132 (3 over tera) (x *F y *F k) (312 * u * g over 10 ^ 15 * tera) =
+    let scaled : Within 132 (3 over tera) (x *F y *F k) (312 * u * G over 10 ^ 15 * tera) =
     rewrite-above same errors (within-times (≤F-refl k (lit< tt)) product)
     in
     round-up {c = 3} (lit< tt) (rw (*F-assoc k x y, *F-comm k (x *F y)) scaled)
 
 pub proximityFactor-close :
-    {x y : Fraction} {u g : ℕ} → u ≤ trillion → g ≤ mostSkinFactor → Close 0 1 x u → Close 132 2 y g →
-    Close 132 16 (proximityFactor* x y) (proximityFactor u g)
+    {x y : Fraction} {u G : ℕ} → u ≤ trillion → G ≤ mostSkinFactor → Close 0 1 x u → Close 132 2 y G →
+    Close 132 16 (proximityFactor* x y) (proximityFactor u G)
 unfolding proximityFactor proximityFactor*
-proximityFactor-close {u = u} {g} u≤ g≤ p q =
-    let sum≤ : proximityG u g + proximityH g ≤ trillion = omega (arith, proximityG-most u≤ g≤, proximityH-most g≤) in
-    round-up tera>0 (product-close u≤ sum≤ p (sum-close (proximityG-close u≤ g≤ p q) (proximityH-close q)))
+proximityFactor-close {u = u} {G} u≤ G≤ p q =
+    let sum≤ : proximityG u G + proximityH G ≤ trillion = omega (arith, proximityG-most u≤ G≤, proximityH-most G≤) in
+    round-up tera>0 (product-close u≤ sum≤ p (sum-close (proximityG-close u≤ G≤ p q) (proximityH-close q)))
 
 -- The a.c. resistance.
 
@@ -172,10 +172,10 @@ module _
       (whole (acResistance r' (skinFactor f ks r') (proximityFactor (spacingRatio dc s) (skinFactor f kp r'))))
   resistance-within =
       let u≤ = spacingRatio-most s>0 dc≤s in
-      let g≤ = skinFactor-most f kp r' zp≤ in
-      acResistance-close r'-range (skinFactor-most f ks r' zs≤) (proximityFactor-most u≤ g≤)
+      let G≤ = skinFactor-most f kp r' zp≤ in
+      acResistance-close r'-range (skinFactor-most f ks r' zs≤) (proximityFactor-most u≤ G≤)
       (skinFactor-close p f-range ks-range r'>0 zs≤)
-      (proximityFactor-close u≤ g≤ (spacingRatio-close dc s>0) (skinFactor-close p f-range kp-range r'>0 zp≤))
+      (proximityFactor-close u≤ G≤ (spacingRatio-close dc s>0) (skinFactor-close p f-range kp-range r'>0 zp≤))
 
   pub resistance-close :
       Within 1000 (whole 0)

@@ -26,40 +26,40 @@ use Rattle.formulas.specs.Bounds.{leastSheathResistance, mostResistance,
 use Rattle.formulas.specs.Laws.CloseInverse.{tera-th, inverse-close}
 
 pub screeningRatio-close :
-    {x rs : ℕ} {x* : Fraction} → leastSheathReactanceLow ≤ x → In leastSheathResistance mostResistance rs →
-    Within 6000 (whole 1) (whole x) x* →
-    Within 11101 (whole 0) (down (x * tera) rs over tera) (x* /F whole rs)
+    {X rs : ℕ} {X* : Fraction} → leastSheathReactanceLow ≤ X → In leastSheathResistance mostResistance rs →
+    Within 6000 (whole 1) (whole X) X* →
+    Within 11101 (whole 0) (down (X * tera) rs over tera) (X* /F whole rs)
 unfolding tera parts _+F_ _*F_ reciprocal
-screeningRatio-close {x} {rs} {x*} x≥ rs-in p =
+screeningRatio-close {X} {rs} {X*} X≥ rs-in p =
     let rs>0 : 0 < rs = omega (arith, rs-in .least) in
-    let large : trillion * rs ≤ 5088 * (x * 10 ^ 12) = omega (arith, rs-in .most) in
-    let unit : whole 1 ≤F parts 13 *F x* =
-    ≤F-trans {y = parts 13 *F whole x}
+    let large : trillion * rs ≤ 5088 * (X * 10 ^ 12) = omega (arith, rs-in .most) in
+    let unit : whole 1 ≤F parts 13 *F X* =
+    ≤F-trans {y = parts 13 *F whole X}
     (record { left = lit< tt; right = lit< tt; across = omega arith })
     (*F-mono (≤F-refl (parts 13) (lit< tt)) (p .below))
     in
-    let rounded = tera-th 5088 (within-round-down 5088 (x * 10 ^ 12) rs>0 large) in
+    let rounded = tera-th 5088 (within-round-down 5088 (X * 10 ^ 12) rs>0 large) in
     let exact = within-scale (1 over rs) rs>0 (within-absorb 13 unit p) in
-    let same : (1 over 10 ^ 12) *F (x * 10 ^ 12 over rs) ≃F (1 over rs) *F whole x =
+    let same : (1 over 10 ^ 12) *F (X * 10 ^ 12 over rs) ≃F (1 over rs) *F whole X =
     record { left = omega arith; right = omega arith; across = omega arith }
     in
-    let turned : (1 over rs) *F x* ≃F x* *F (1 over rs) =
+    let turned : (1 over rs) *F X* ≃F X* *F (1 over rs) =
     record { left = exact .below .right; right = omega (arith, exact .below .right); across = omega arith }
     in
     within-weaken (lit≤ tt) (closed≤ tt)
     (within-trans (within-same (≃F-refl _ (lit< tt)) same rounded) (within-same (≃F-refl _ (exact .below .left)) turned exact))
 
 pub screening-close :
-    {x rs : ℕ} {x* : Fraction} → leastSheathReactanceLow ≤ x → In leastSheathResistance mostResistance rs →
-    Within 6000 (whole 1) (whole x) x* →
+    {X rs : ℕ} {X* : Fraction} → leastSheathReactanceLow ≤ X → In leastSheathResistance mostResistance rs →
+    Within 6000 (whole 1) (whole X) X* →
     Within 22203 (1 over tera)
-    (reciprocal (whole 1 +F square (x* /F whole rs)))
-    (up (tera * tera) (tera + screeningRatioSquared x rs) over tera)
+    (reciprocal (whole 1 +F square (X* /F whole rs)))
+    (up (tera * tera) (tera + screeningRatioSquared X rs) over tera)
 unfolding screeningRatioSquared tera _+F_ _*F_
-screening-close {x} {rs} {x*} x≥ rs-in p =
-    let v = down (x * 10 ^ 12) rs in
+screening-close {X} {rs} {X*} X≥ rs-in p =
+    let v = down (X * 10 ^ 12) rs in
     let v2 = down (v * v) (10 ^ 12) in
-    let exact = inverse-close 11101 v (screeningRatio-close x≥ rs-in p) in
+    let exact = inverse-close 11101 v (screeningRatio-close X≥ rs-in p) in
     let rounded = within-times (≤F-refl (1 over 10 ^ 12) (lit< tt)) (within-up (10 ^ 12 * 10 ^ 12) {b = 10 ^ 12 + v2} (omega arith)) in
     let lower : (10 ^ 12 * 10 ^ 12 over 10 ^ 12 + v2) *F (1 over 10 ^ 12) ≃F 10 ^ 12 over 10 ^ 12 + v2 =
     record { left = omega arith; right = omega arith; across = omega arith }

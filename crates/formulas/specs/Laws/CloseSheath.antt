@@ -83,16 +83,16 @@ saturate-close {r} {u} {x} p =
 
 -- v, v2 and S in the arrangements 1, 2 and 5.
 
-pub bondRatio-least : {x rs : ℕ} → leastSheathReactance ≤ x → In leastSheathResistance mostResistance rs → 213000000 ≤ bondRatio x rs
+pub bondRatio-least : {X rs : ℕ} → leastSheathReactance ≤ X → In leastSheathResistance mostResistance rs → 213000000 ≤ bondRatio X rs
 unfolding bondRatio tera
-bondRatio-least x≥ rs-range = up-least-below _ _ (omega (arith, rs-range .least)) (omega (arith, rs-range .most))
+bondRatio-least X≥ rs-range = up-least-below _ _ (omega (arith, rs-range .least)) (omega (arith, rs-range .most))
 
 pub bondRatio-close :
-    {x rs : ℕ} {x* : Fraction} → leastSheathReactance ≤ x → In leastSheathResistance mostResistance rs → Within 200 (whole 0) x* (whole x) →
-    Within 4900 (whole 0) (bondRatio* x* rs) (bondRatio x rs over tera)
+    {X rs : ℕ} {X* : Fraction} → leastSheathReactance ≤ X → In leastSheathResistance mostResistance rs → Within 200 (whole 0) X* (whole X) →
+    Within 4900 (whole 0) (bondRatio* X* rs) (bondRatio X rs over tera)
 unfolding bondRatio bondRatio*
-bondRatio-close x≥ rs-range p =
-    ratio-close 4700 (omega (arith, rs-range .least)) (omega (arith, bondRatio-least x≥ rs-range)) p
+bondRatio-close X≥ rs-range p =
+    ratio-close 4700 (omega (arith, rs-range .least)) (omega (arith, bondRatio-least X≥ rs-range)) p
 
 -- v2 is not below v²/T, and less than 1 above it: proved from the definition like `sheathReactanceLow-rounds`
 bondRatioSquared-above : (v : ℕ) → v * v ≤ bondRatioSquared v * tera
@@ -118,12 +118,12 @@ bondRatioSquared-rounds v =
     }
 
 pub bondRatioSquared-close :
-    {x rs : ℕ} {x* : Fraction} → leastSheathReactance ≤ x → In leastSheathResistance mostResistance rs → Within 200 (whole 0) x* (whole x) →
-    Within 9800 (1 over tera) (square (bondRatio* x* rs)) (bondRatioSquared (bondRatio x rs) over tera)
-bondRatioSquared-close {x} {rs} x≥ rs-range p =
-    let v-close = bondRatio-close x≥ rs-range p in
+    {X rs : ℕ} {X* : Fraction} → leastSheathReactance ≤ X → In leastSheathResistance mostResistance rs → Within 200 (whole 0) X* (whole X) →
+    Within 9800 (1 over tera) (square (bondRatio* X* rs)) (bondRatioSquared (bondRatio X rs) over tera)
+bondRatioSquared-close {X} {rs} X≥ rs-range p =
+    let v-close = bondRatio-close X≥ rs-range p in
     within-weaken (lit≤ tt) (zero-and tera>0)
-    (within-trans (within-relative-product v-close v-close) (bondRatioSquared-rounds (bondRatio x rs)))
+    (within-trans (within-relative-product v-close v-close) (bondRatioSquared-rounds (bondRatio X rs)))
 
 -- 1/T of the largest Rs, and one rounding
 unit-of-most : (1 over tera) *F whole mostResistance +F whole 1 ≤F whole 408
@@ -145,21 +145,21 @@ loss-close {r} {v2} {rs} rs≤ p =
     times-rs))
 
 pub circulating-close :
-    {x rs : ℕ} {x* : Fraction} → leastSheathReactance ≤ x → In leastSheathResistance mostResistance rs → Within 200 (whole 0) x* (whole x) →
-    Within 9800 (whole 408) (circulatingLoss* x* rs) (whole (circulatingLoss x rs))
+    {X rs : ℕ} {X* : Fraction} → leastSheathReactance ≤ X → In leastSheathResistance mostResistance rs → Within 200 (whole 0) X* (whole X) →
+    Within 9800 (whole 408) (circulatingLoss* X* rs) (whole (circulatingLoss X rs))
 unfolding circulatingLoss circulatingLoss*
-circulating-close x≥ rs-range p = loss-close (rs-range .most) (bondRatioSquared-close x≥ rs-range p)
+circulating-close X≥ rs-range p = loss-close (rs-range .most) (bondRatioSquared-close X≥ rs-range p)
 
 three-halves-of : whole 408 *F (3 over 2) +F whole 1 ≤F whole 613
 unfolding _+F_ _*F_
 three-halves-of = closed≤ tt
 
 pub sl-close :
-    {x rs : ℕ} {x* : Fraction} → leastSheathReactance ≤ x → In leastSheathResistance mostResistance rs → Within 200 (whole 0) x* (whole x) →
-    Within 9800 (whole 613) (slLoss* x* rs) (whole (slLoss x rs))
+    {X rs : ℕ} {X* : Fraction} → leastSheathReactance ≤ X → In leastSheathResistance mostResistance rs → Within 200 (whole 0) X* (whole X) →
+    Within 9800 (whole 613) (slLoss* X* rs) (whole (slLoss X rs))
 unfolding slLoss slLoss* threeHalves _*F_
-sl-close {x} {rs} {x*} x≥ rs-range p =
-    let more = within-times (≤F-refl (3 over 2) (lit< tt)) (circulating-close x≥ rs-range p) in
+sl-close {X} {rs} {X*} X≥ rs-range p =
+    let more = within-times (≤F-refl (3 over 2) (lit< tt)) (circulating-close X≥ rs-range p) in
     within-weaken (le-refl 9800) three-halves-of
     (within-up-after (lit< tt)
     (within-same

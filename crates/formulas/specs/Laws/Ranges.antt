@@ -109,18 +109,18 @@ pub spacingRatio-most : {dc s : ℕ} → 0 < s → dc ≤ s → spacingRatio dc 
 unfolding spacingRatio tera
 spacingRatio-most s>0 dc≤s = up-least _ _ (mul-pos s>0 s>0) (omega (arith, mul-le-mul dc≤s dc≤s))
 
-pub proximityH-most : {g : ℕ} → g ≤ mostSkinFactor → proximityH g ≤ 600000000000
+pub proximityH-most : {G : ℕ} → G ≤ mostSkinFactor → proximityH G ≤ 600000000000
 unfolding proximityH tera
-proximityH-most g≤ = up-least _ _ (omega arith) (omega arith)
+proximityH-most G≤ = up-least _ _ (omega arith) (omega arith)
 
-pub proximityG-most : {u g : ℕ} → u ≤ trillion → g ≤ mostSkinFactor → proximityG u g ≤ 80000000000
+pub proximityG-most : {u G : ℕ} → u ≤ trillion → G ≤ mostSkinFactor → proximityG u G ≤ 80000000000
 unfolding proximityG
-proximityG-most u≤ g≤ = up-least _ _ (lit< tt) (omega (arith, mul-le-mul u≤ g≤))
+proximityG-most u≤ G≤ = up-least _ _ (lit< tt) (omega (arith, mul-le-mul u≤ G≤))
 
-pub proximityFactor-most : {u g : ℕ} → u ≤ trillion → g ≤ mostSkinFactor → proximityFactor u g ≤ mostProximityFactor
+pub proximityFactor-most : {u G : ℕ} → u ≤ trillion → G ≤ mostSkinFactor → proximityFactor u G ≤ mostProximityFactor
 unfolding proximityFactor tera
-proximityFactor-most {u} {g} u≤ g≤ =
-    let inner : proximityG u g + proximityH g ≤ mostProximityFactor = omega (arith, proximityG-most u≤ g≤, proximityH-most g≤) in
+proximityFactor-most {u} {G} u≤ G≤ =
+    let inner : proximityG u G + proximityH G ≤ mostProximityFactor = omega (arith, proximityG-most u≤ G≤, proximityH-most G≤) in
     up-least _ _ (lit< tt) (omega (arith, mul-le-mul u≤ inner))
 
 pub acResistance-range :
@@ -161,21 +161,21 @@ sheathReactanceLow-most b≤ l≤ = omega (arith, mul-le-mul b≤ l≤)
 
 -- The sheath.
 
-pub bondRatio-most : {x rs : ℕ} → x ≤ mostSheathReactance → leastSheathResistance ≤ rs → bondRatio x rs ≤ mostBondRatio
+pub bondRatio-most : {X rs : ℕ} → X ≤ mostSheathReactance → leastSheathResistance ≤ rs → bondRatio X rs ≤ mostBondRatio
 unfolding bondRatio tera
-bondRatio-most x≤ rs≥ = up-least _ _ (omega arith) (omega arith)
+bondRatio-most X≤ rs≥ = up-least _ _ (omega arith) (omega arith)
 
 pub bondRatioSquared-most : {v : ℕ} → v ≤ mostBondRatio → bondRatioSquared v ≤ mostBondRatioSquared
 unfolding bondRatioSquared tera up down
 bondRatioSquared-most v≤ = omega (arith, mul-le-mul v≤ v≤)
 
-pub circulatingLoss-most : (x rs : ℕ) → circulatingLoss x rs ≤ rs
+pub circulatingLoss-most : (X rs : ℕ) → circulatingLoss X rs ≤ rs
 unfolding circulatingLoss tera
-circulatingLoss-most x rs = up-least _ _ (omega arith) (omega arith)
+circulatingLoss-most X rs = up-least _ _ (omega arith) (omega arith)
 
-pub slLoss-most : (x : ℕ) {rs : ℕ} → rs ≤ mostResistance → slLoss x rs ≤ mostSheathLoss
+pub slLoss-most : (X : ℕ) {rs : ℕ} → rs ≤ mostResistance → slLoss X rs ≤ mostSheathLoss
 unfolding slLoss threeHalves
-slLoss-most x {rs} rs≤ = up-least _ _ (lit< tt) (omega (arith, circulatingLoss-most x rs))
+slLoss-most X {rs} rs≤ = up-least _ _ (lit< tt) (omega (arith, circulatingLoss-most X rs))
 
 pub eddyRatio-most : (b : ℕ) {rs : ℕ} → 0 < rs → 5 * b ≤ rs → eddyRatio b rs ≤ mostEddyRatio
 unfolding eddyRatio tera
@@ -237,24 +237,24 @@ unscreenedLoss-most {ra} b c ra≤ dA>0 c≤ =
     let r≤ : 123 * reducedArmourResistance ra b ≤ 50061000000000000 = omega (arith, reducedArmourResistance-most ra b) in
     up-least _ _ (lit< tt) (le-trans (mul-le-mul r≤ (armourSpacing-most c dA>0 c≤)) (lit≤ tt))
 
-pub screeningRatio-most : {x rs : ℕ} → x ≤ mostSheathReactance → leastSheathResistance ≤ rs → down (x * tera) rs ≤ mostBondRatio
+pub screeningRatio-most : {X rs : ℕ} → X ≤ mostSheathReactance → leastSheathResistance ≤ rs → down (X * tera) rs ≤ mostBondRatio
 unfolding tera
-screeningRatio-most x≤ rs≥ = down-most-above _ _ (omega arith) (omega arith)
+screeningRatio-most X≤ rs≥ = down-most-above _ _ (omega arith) (omega arith)
 
 pub screeningRatioSquared-most :
-    {x rs : ℕ} → x ≤ mostSheathReactance → leastSheathResistance ≤ rs → screeningRatioSquared x rs ≤ mostBondRatioSquared
+    {X rs : ℕ} → X ≤ mostSheathReactance → leastSheathResistance ≤ rs → screeningRatioSquared X rs ≤ mostBondRatioSquared
 unfolding screeningRatioSquared tera
-screeningRatioSquared-most x≤ rs≥ =
-    down-most-above _ _ (lit< tt) (omega (arith, mul-le-mul (screeningRatio-most x≤ rs≥) (screeningRatio-most x≤ rs≥)))
+screeningRatioSquared-most X≤ rs≥ =
+    down-most-above _ _ (lit< tt) (omega (arith, mul-le-mul (screeningRatio-most X≤ rs≥) (screeningRatio-most X≤ rs≥)))
 
 pub screening-most : (v2 : ℕ) → up (tera * tera) (tera + v2) ≤ trillion
 unfolding tera
 screening-most v2 = up-least _ _ (omega arith) (omega arith)
 
-pub screenedLoss-most : {w : ℕ} (x rs : ℕ) → w ≤ mostArmourLoss → screenedLoss w x rs ≤ mostArmourLoss
+pub screenedLoss-most : {w : ℕ} (X rs : ℕ) → w ≤ mostArmourLoss → screenedLoss w X rs ≤ mostArmourLoss
 unfolding screenedLoss tera
-screenedLoss-most x rs w≤ =
-    up-least _ _ (lit< tt) (mul-le-mul w≤ (screening-most (screeningRatioSquared x rs)))
+screenedLoss-most X rs w≤ =
+    up-least _ _ (lit< tt) (mul-le-mul w≤ (screening-most (screeningRatioSquared X rs)))
 
 -- The dielectric loss.
 

@@ -12,9 +12,8 @@ use Rattle.stages.proofs.rating.rating.Tie as tie
 returns : tie.Need-returns
 unfolding rating
 returns c =
-    let q = c .before .mul-div-down .result in
-    let p = c .root .ensures in
-    root-only (record { below = p .0; above = p .1 }) (root-is q) ∙ ap root (c .before .mul-div-down .ensures)
+    let q = c .before .mul-div-down in
+    root-only (c .root .ensures) (root-is (q .result)) ∙ ap root (q .ensures)
 
 pub rating-spec : {M : Type 1} → statement M
 rating-spec =

@@ -6,6 +6,7 @@ use native.Mathlib.Nat.{mul-le-mul-right, mul-div-mul-right, div-div-eq-div-mul}
 use native.Mathlib.Omega.{arith}
 use lib.Pow.{pow-pos, pow-add}
 use borrow.Author.Needs.{needs}
+use Rattle.wide.specs.Shift.{IsShift}
 use Rattle.wide.specs.Split.{Split}
 use Rattle.wide.proofs.LongDivision.{one-limb, shifted-is, shifted-below, long-is}
 use Rattle.wide.proofs.division.long_division.Statement.{statement}
@@ -25,9 +26,9 @@ moved-out l s s<64 =
 abbrev top : ℕ → ℕ → ℕ → ℕ
 top h l s = h * 2 ^ s % 2 ^ 64 + l / 2 / 2 ^ (63 - s)
 
-module _ (h l c s : ℕ) (h<c : h < c) (l< : l < 2 ^ 64) (s< : (s < 64) × (2 ^ 63 ≤ c * 2 ^ s) × (c * 2 ^ s < 2 ^ 64)) where
+module _ (h l c s : ℕ) (h<c : h < c) (l< : l < 2 ^ 64) (shift : IsShift c s) where
   top-is : h * 2 ^ s + l * 2 ^ s / 2 ^ 64 ≡ top h l s
-  top-is = omega (arith, moved-out l s (s< .0), mul-le-mul-right {m = h} {n = c} (2 ^ s) (omega arith))
+  top-is = omega (arith, moved-out l s (shift .small), mul-le-mul-right {m = h} {n = c} (2 ^ s) (omega arith))
 
   top-below : top h l s < c * 2 ^ s
   top-below = subst (λ (x : ℕ). x < c * 2 ^ s) top-is (shifted-below h l c (2 ^ s) (2 ^ 64) (pow-pos s) h<c l<)

@@ -25,4 +25,5 @@ root-spec =
     tie.close
     (tie.spec Inv-loop μ-loop (λ c. search needs) (λ c κs. search needs) (λ c κs. search needs) (λ c. search needs)
     (λ c. omega (arith, halves (c .loop .inv .0) (c .loop .inv .0))) div-r (λ c. omega (arith, loop-less c)) loop-less
-    (λ c. (omega (arith, loop-less c), step-above _ _ (div-r c))) (λ c. (c .loop-test .left, c .before .loop .inv .1)))
+    (λ c. (omega (arith, loop-less c), step-above _ _ (div-r c)))
+    (λ c. record { below = c .loop-test .left; above = c .before .loop .inv .1 }))

@@ -2,5 +2,6 @@
 pub mod Rounding
 pub mod Fraction
 pub mod Error
+pub mod RoundingError
 pub mod Root
 pub mod Instances

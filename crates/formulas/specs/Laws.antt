@@ -12,11 +12,12 @@ pub mod LogEndsGap
 pub mod LogEndsSum
 pub mod LogEndsHold
 pub mod Between
+pub mod OverT
 pub mod CloseReactance
 pub mod CloseRise
 pub mod CloseUnitRise
-pub mod CloseConductor
-pub mod CloseResistance
+pub mod CloseSkin
+pub mod CloseProximity
 pub mod CloseDielectric
 pub mod CloseInverse
 pub mod CloseArmour

@@ -17,7 +17,7 @@ use Rattle.formulas.specs.Armour.{armourLoss, armourLoss*}
 use Rattle.formulas.specs.Laws.Ranges as Law
 use Rattle.formulas.specs.Laws.Ranges.{In}
 use Rattle.formulas.specs.Laws.TableRange.{coefficient-most, ks-range, kp-range}
-use Rattle.formulas.specs.Laws.CloseResistance.{resistance-close}
+use Rattle.formulas.specs.Laws.CloseProximity.{resistance-close}
 use Rattle.formulas.specs.Laws.CloseSpacing.{sheathReactance-close, sheathReactance-least, spacingLogHigh-least}
 use Rattle.formulas.specs.Laws.CloseSheath.{circulating-close, sl-close}
 use Rattle.formulas.specs.Laws.CloseEddy.{eddy-close}

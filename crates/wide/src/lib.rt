@@ -1,4 +1,3 @@
-ghost use Rattle.exact.specs.Trillion.{trillion};
 // Whole numbers of two limbs of 64 bits, and the operations that pass through them: a·b/c rounded either way, at any c
 // and at 10^12. And the square root of a u64.
 pub mod division;

@@ -14,11 +14,10 @@ use Rattle.exact.specs.Laws.Error.{
   within-same,
   within-times,
   within-product,
-  within-up,
   within-scale,
-  within-round-down,
   within-relative-reciprocal,
 }
+use Rattle.exact.specs.Laws.RoundingError.{within-up, within-round-down}
 use Rattle.exact.specs.Trillion.{trillion}
 use Rattle.formulas.specs.Constants.{tera, piLow, IsPi}
 use Rattle.formulas.specs.Reactance.{reactance, reactance*}
@@ -40,6 +39,7 @@ use Rattle.formulas.specs.Laws.CloseReactance.{reactance-close}
 use Rattle.formulas.specs.Bounds.{leastSheathResistance, mostResistance, leastSheathReactanceLow, mostArmourLoss}
 use Rattle.formulas.specs.Laws.CloseInverse.{tera-th, inverse-close}
 use Rattle.formulas.specs.Laws.CloseScreening.{screeningRatio-close, screening-close, screening-share-most}
+use Rattle.formulas.specs.Laws.OverT.{quotient-close}
 
 reactance*-pos : {π : Fraction} {f : ℕ} → IsPi π → In 1000 6500 f → 0 < reactance* π f .num
 unfolding reactance* piLow _*F_
@@ -80,17 +80,6 @@ reducedArmourResistance-close {π} {f} {ra} pi range ra-in =
     within-weaken (lit≤ tt) (closed≤ tt)
     (within-trans (within-same (≃F-refl _ (scaled .below .left)) same scaled) (within-up (ra * 10 ^ 12) (omega arith)))
 
-spacing-close :
-    (c : ℕ) {dA : ℕ} → 0 < dA → Within 0 (1 over tera) (4 * (c * c) over dA * dA) (up (4 * (c * c) * tera) (dA * dA) over tera)
-unfolding tera _*F_
-spacing-close c {dA} dA>0 =
-    let area>0 : 0 < dA * dA = mul-pos dA>0 dA>0 in
-    let scaled = within-times (≤F-refl (1 over 10 ^ 12) (lit< tt)) (within-up (4 * (c * c) * 10 ^ 12) area>0) in
-    within-same
-    (record { left = omega arith; right = area>0; across = omega arith })
-    (record { left = lit< tt; right = lit< tt; across = omega arith })
-    scaled
-
 spacing-most : (c : ℕ) {dA : ℕ} → 0 < dA → 2 * c ≤ dA → 4 * (c * c) over dA * dA ≤F whole 1
 spacing-most c dA>0 c≤ = record { left = mul-pos dA>0 dA>0; right = lit< tt; across = omega (arith, mul-le-mul c≤ c≤) }
 
@@ -105,7 +94,7 @@ unscreened-close c {π} {f} {ra} {dA} pi range ra-in dA>0 c≤ =
     record { left = lit< tt; right = lit< tt; across = omega (arith, reducedArmourResistance-most ra (reactance f), ra-in .most) }
     in
     let first = within-times (≤F-refl (123 over 100) (lit< tt)) (reducedArmourResistance-close pi range ra-in) in
-    let both = within-product (spacing-most c dA>0 c≤) r≤ first (spacing-close c dA>0) in
+    let both = within-product (spacing-most c dA>0 c≤) r≤ first (quotient-close (4 * (c * c)) (mul-pos dA>0 dA>0)) in
     let lower :
     reducedArmourResistance* ra (reactance* π f) *F (123 over 100) *F (4 * (c * c) over dA * dA) ≃F
     (123 over 100) *F reducedArmourResistance* ra (reactance* π f) *F (4 * (c * c) over dA * dA) =

@@ -11,11 +11,11 @@ use Rattle.exact.specs.Laws.Error.{
   within-trans,
   within-same,
   within-times,
-  within-up,
   within-scale,
   within-relative-product,
   within-relative-reciprocal,
 }
+use Rattle.exact.specs.Laws.RoundingError.{within-up}
 use Rattle.formulas.specs.Constants.{tera, IsPi}
 use Rattle.formulas.specs.Logarithm.{logLow, logHigh, IsLog}
 use Rattle.formulas.specs.Reactance.{reactance, reactance*}

@@ -7,9 +7,10 @@ use lib.Dec.{lit<}
 use Rattle.exact.specs.Rounding.{up}
 use Rattle.exact.specs.Laws.Rounding.{up-least-below}
 use Rattle.exact.specs.Fraction.{Fraction, _over_, whole, _+F_, _*F_, square, _≤F_}
-use Rattle.exact.specs.Laws.Fraction.{closed≤, ≤F-refl, ≃F-refl}
+use Rattle.exact.specs.Laws.Fraction.{closed≤, ≃F-refl}
 use Rattle.exact.specs.Error.{Within}
-use Rattle.exact.specs.Laws.Error.{within-refl, within-weaken, within-same, within-times, within-product, within-up-after, within-up-over}
+use Rattle.exact.specs.Laws.Error.{within-weaken, within-same, within-times, within-product}
+use Rattle.exact.specs.Laws.RoundingError.{within-up-after, within-up-over}
 use Rattle.formulas.specs.Constants.{tera, IsPi}
 use Rattle.formulas.specs.Reactance.{reactance, reactance*}
 use Rattle.formulas.specs.Sheath.{
@@ -25,8 +26,9 @@ use Rattle.formulas.specs.Sheath.{
 use Rattle.formulas.specs.Laws.Ranges.{In, reactance-range, eddyFactor-most, eddyInner-most}
 use Rattle.formulas.specs.Laws.CloseReactance.{reactance-close}
 use Rattle.formulas.specs.Laws.LogRange.{tera>0}
-use Rattle.formulas.specs.Laws.CloseSheath.{zero-and, ratio-close, square-close, saturate-close}
+use Rattle.formulas.specs.Laws.CloseSheath.{ratio-close, square-close, saturate-close}
 use Rattle.formulas.specs.Bounds.{leastSheathResistance, mostResistance, leastReactance, mostEddyInner}
+use Rattle.formulas.specs.Laws.OverT.{quotient-close}
 
 -- m, m2 and e'.
 
@@ -61,13 +63,7 @@ eddyFactor-close {m2 = m2} p =
 
 pub eddySpacing-close : (d : ℕ) {s : ℕ} → 0 < s → Within 0 (1 over tera) (d * d over 4 * (s * s)) (eddySpacing d s over tera)
 unfolding eddySpacing
-eddySpacing-close d {s} s>0 =
-    let below>0 : 0 < 4 * (s * s) = omega (arith, mul-pos s>0 s>0) in
-    within-weaken (le-refl 0) (zero-and tera>0)
-    (within-up-over below>0 tera>0
-    (within-same (≃F-refl _ below>0)
-    (record { left = below>0; right = mul-pos below>0 tera>0; across = omega arith })
-    (within-refl (≤F-refl (d * d over 4 * (s * s)) below>0))))
+eddySpacing-close d s>0 = quotient-close (d * d) (omega (arith, mul-pos s>0 s>0))
 
 -- two of 1/T of the largest Rs, and one rounding
 inner-units : ((1 over tera) +F (1 over tera)) *F whole mostResistance +F whole 1 ≤F whole 815

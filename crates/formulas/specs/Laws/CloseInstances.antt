@@ -55,7 +55,7 @@ use Rattle.formulas.specs.Dielectric.{dielectricLoss, dielectricResistan
 use Rattle.formulas.specs.Rating.{unitRise, unitRise*, rise*}
 use Rattle.formulas.specs.Laws.Ranges.{In, reactance-range}
 use Rattle.formulas.specs.Laws.Current.{IsRating}
-use Rattle.formulas.specs.Laws.CloseResistance.{resistance-close}
+use Rattle.formulas.specs.Laws.CloseProximity.{resistance-close}
 use Rattle.formulas.specs.Laws.CloseSpacing.{sheathReactance-close, sheathReactance-least, spacingLogHigh-least}
 use Rattle.formulas.specs.Laws.CloseSheath.{circulating-close, sl-close}
 use Rattle.formulas.specs.Laws.CloseEddy.{eddy-close}

@@ -16,11 +16,11 @@ use Rattle.exact.specs.Laws.Error.{
   within-absorb,
   within-sum,
   within-times,
-  within-down,
   within-scale,
   within-relative-product,
   within-relative-reciprocal,
 }
+use Rattle.exact.specs.Laws.RoundingError.{within-down}
 use Rattle.formulas.specs.Constants.{tera}
 
 -- The square of a ratio over T, rounded down, and 1 more, over T.

@@ -6,7 +6,8 @@ use lib.Dec.{lit<, lit≤}
 use Rattle.exact.specs.Fraction.{Fraction, _over_, whole, _*F_, _≃F_}
 use Rattle.exact.specs.Laws.Fraction.{≃F-refl}
 use Rattle.exact.specs.Error.{Within}
-use Rattle.exact.specs.Laws.Error.{within-scale, within-round, within-same}
+use Rattle.exact.specs.Laws.Error.{within-scale, within-same}
+use Rattle.exact.specs.Laws.RoundingError.{within-round}
 use Rattle.formulas.specs.Constants.{piLow, piHigh, IsPi}
 use Rattle.formulas.specs.Reactance.{reactance, reactance*}
 use Rattle.formulas.specs.Laws.Ranges.{In, reactance-range}

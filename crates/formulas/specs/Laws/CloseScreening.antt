@@ -8,22 +8,15 @@ use Rattle.exact.specs.Rounding.{up, down}
 use Rattle.exact.specs.Fraction.{Fraction, _over_, whole, _+F_, _*F_, reciprocal, _/F_, square, _≤F_, _≃F_}
 use Rattle.exact.specs.Laws.Fraction.{closed≤, ≃F-refl, ≤F-refl, ≤F-trans, *F-mono}
 use Rattle.exact.specs.Error.{parts, Within}
-use Rattle.exact.specs.Laws.Error.{
-  within-weaken,
-  within-trans,
-  within-same,
-  within-absorb,
-  within-times,
-  within-up,
-  within-scale,
-  within-round-down,
-}
+use Rattle.exact.specs.Laws.Error.{within-weaken, within-trans, within-same, within-absorb, within-scale}
+use Rattle.exact.specs.Laws.RoundingError.{within-round-down}
 use Rattle.exact.specs.Trillion.{trillion}
 use Rattle.formulas.specs.Constants.{tera}
 use Rattle.formulas.specs.Armour.{screeningRatioSquared}
 use Rattle.formulas.specs.Laws.Ranges.{In}
 use Rattle.formulas.specs.Bounds.{leastSheathResistance, mostResistance, leastSheathReactanceLow}
 use Rattle.formulas.specs.Laws.CloseInverse.{tera-th, inverse-close}
+use Rattle.formulas.specs.Laws.OverT.{quotient-close}
 
 pub screeningRatio-close :
     {X rs : ℕ} {X* : Fraction} → leastSheathReactanceLow ≤ X → In leastSheathResistance mostResistance rs →
@@ -60,15 +53,7 @@ screening-close {X} {rs} {X*} X≥ rs-in p =
     let v = down (X * 10 ^ 12) rs in
     let v2 = down (v * v) (10 ^ 12) in
     let exact = inverse-close 11101 v (screeningRatio-close X≥ rs-in p) in
-    let rounded = within-times (≤F-refl (1 over 10 ^ 12) (lit< tt)) (within-up (10 ^ 12 * 10 ^ 12) {b = 10 ^ 12 + v2} (omega arith)) in
-    let lower : (10 ^ 12 * 10 ^ 12 over 10 ^ 12 + v2) *F (1 over 10 ^ 12) ≃F 10 ^ 12 over 10 ^ 12 + v2 =
-    record { left = omega arith; right = omega arith; across = omega arith }
-    in
-    let upper : whole (up (10 ^ 12 * 10 ^ 12) (10 ^ 12 + v2)) *F (1 over 10 ^ 12) ≃F up (10 ^ 12 * 10 ^ 12) (10 ^ 12 + v2) over 10 ^ 12 =
-    record { left = lit< tt; right = lit< tt; across = omega arith }
-    in
-    within-weaken (lit≤ tt) (closed≤ tt)
-    (within-trans exact (within-same lower upper rounded))
+    within-weaken (lit≤ tt) (closed≤ tt) (within-trans exact (quotient-close (10 ^ 12) {b = 10 ^ 12 + v2} (omega arith)))
 
 pub screening-share-most : (x : Fraction) → 0 < x .den → reciprocal (whole 1 +F square x) ≤F whole 1
 unfolding _+F_ _*F_ reciprocal

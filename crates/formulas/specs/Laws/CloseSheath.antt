@@ -17,10 +17,8 @@ use Rattle.exact.specs.Laws.Error.{
   within-times,
   within-relative-product,
   within-saturate,
-  within-up-after,
-  within-up-over,
-  within-round-over,
 }
+use Rattle.exact.specs.Laws.RoundingError.{within-up-after, within-up-over, within-round-over}
 use Rattle.exact.specs.Trillion.{trillion}
 use Rattle.formulas.specs.Constants.{tera}
 use Rattle.formulas.specs.Sheath.{

@@ -9,7 +9,8 @@ use Rattle.exact.specs.Laws.Rounding.{up-least-below}
 use Rattle.exact.specs.Fraction.{Fraction, _over_, whole, _+F_, _*F_, reciprocal, _/F_, _≤F_}
 use Rattle.exact.specs.Laws.Fraction.{closed≤, ≃F-refl, ≤F-refl, ≤F-trans}
 use Rattle.exact.specs.Error.{Within}
-use Rattle.exact.specs.Laws.Error.{within-weaken, within-sum, within-scale, within-relative-product, within-round, within-same}
+use Rattle.exact.specs.Laws.Error.{within-weaken, within-sum, within-scale, within-relative-product, within-same}
+use Rattle.exact.specs.Laws.RoundingError.{within-round}
 use Rattle.formulas.specs.Constants.{tera, ln2Low, ln2High, ln2ThirdHigh, Between, IsPi, IsLn2}
 use Rattle.formulas.specs.Reactance.{reactance, reactance*}
 use Rattle.formulas.specs.Logarithm.{octaves, logLow, logHigh, IsLog}

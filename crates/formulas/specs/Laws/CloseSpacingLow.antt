@@ -10,15 +10,8 @@ use Rattle.exact.specs.Laws.Rounding.{down-most}
 use Rattle.exact.specs.Fraction.{Fraction, _over_, whole, _+F_, _*F_, reciprocal, _/F_, _≤F_}
 use Rattle.exact.specs.Laws.Fraction.{closed≤, ≃F-refl, ≤F-trans}
 use Rattle.exact.specs.Error.{parts, Within}
-use Rattle.exact.specs.Laws.Error.{
-  within-weaken,
-  within-sum,
-  within-trans,
-  within-scale,
-  within-same,
-  within-round-down,
-  within-relative-product,
-}
+use Rattle.exact.specs.Laws.Error.{within-weaken, within-sum, within-trans, within-scale, within-same, within-relative-product}
+use Rattle.exact.specs.Laws.RoundingError.{within-round-down}
 use Rattle.formulas.specs.Constants.{tera, piLow, piHigh, ln2Low, ln2High, ln2ThirdLow, Between, IsPi, IsLn2}
 use Rattle.formulas.specs.Reactance.{reactanceLow, reactance*}
 use Rattle.formulas.specs.Logarithm.{logLow, logHigh, IsLog}

@@ -9,7 +9,8 @@ use Rattle.exact.specs.Laws.Rounding.{up-least-below}
 use Rattle.exact.specs.Fraction.{Fraction, _over_, whole, _+F_, _*F_, reciprocal, _/F_}
 use Rattle.exact.specs.Laws.Fraction.{closed≤, ≃F-refl, ≤F-refl, *F-comm, whole-+F, whole-*F}
 use Rattle.exact.specs.Error.{parts, Within}
-use Rattle.exact.specs.Laws.Error.{within-weaken, within-trans, within-absorb, within-sum, within-scale, within-same, within-up}
+use Rattle.exact.specs.Laws.Error.{within-weaken, within-trans, within-absorb, within-sum, within-scale, within-same}
+use Rattle.exact.specs.Laws.RoundingError.{within-up}
 use Rattle.exact.specs.Trillion.{trillion}
 use Rattle.formulas.specs.Rating.{unitRise, unitRise*}
 use Rattle.formulas.specs.Bounds.{leastConductorResistance, leastUnitRise}

@@ -1,23 +1,14 @@
 -- Stage 4 against its exact values: u, h, g and yp within 132 parts in 10^12 and a few units of 10^-12, and the a.c. resistance R,
 -- whose factor is at least 1 and takes those units in, within 178 parts in 10^12. Assumes nothing.
 use Prim.Native.Nat.{ℕ, _+_, _*_, _^_, _≤_, _<_}
-use native.Mathlib.Nat.{mul-pos, mul-le-mul-right}
+use native.Mathlib.Nat.{mul-pos}
 use native.Mathlib.Omega.{arith}
 use lib.Dec.{lit<, lit≤}
 use Rattle.exact.specs.Fraction.{Fraction, _over_, whole, _+F_, _*F_, _≤F_, _≃F_}
-use Rattle.exact.specs.Laws.Fraction.{closed≤, ≃F-refl, ≤F-refl, ≤F-trans, +F-comm, *F-comm, *F-assoc}
-use Rattle.exact.specs.Error.{parts, Within}
-use Rattle.exact.specs.Laws.Error.{
-  within-refl,
-  within-weaken,
-  within-same,
-  within-absorb,
-  within-sum,
-  within-times,
-  within-product,
-  within-scale,
-  within-round,
-}
+use Rattle.exact.specs.Laws.Fraction.{closed≤, ≃F-refl, ≤F-refl, +F-comm, *F-comm, *F-assoc}
+use Rattle.exact.specs.Error.{Within}
+use Rattle.exact.specs.Laws.Error.{within-refl, within-weaken, within-same, within-times, within-scale}
+use Rattle.exact.specs.Laws.RoundingError.{within-round}
 use Rattle.exact.specs.Trillion.{trillion}
 use Rattle.formulas.specs.Constants.{tera, IsPi}
 use Rattle.formulas.specs.Skin.{skinRatio, skinFactor, skinFactor*}
@@ -43,50 +34,27 @@ use Rattle.formulas.specs.Laws.Ranges.{
   proximityFactor-most,
   acResistance-range,
 }
-use Rattle.formulas.specs.Laws.CloseConductor.{Close, rewrite-above, round-up, at-most, saturate-times, skinFactor-close}
+use Rattle.formulas.specs.Laws.OverT.{
+  Close,
+  rewrite-above,
+  round-up,
+  saturate-times,
+  no-units,
+  quotient-close,
+  sum-close,
+  product-close,
+  units-absorb,
+}
+use Rattle.formulas.specs.Laws.CloseSkin.{skinFactor-close}
 use Rattle.formulas.specs.Laws.LogRange.{tera>0}
 use Rattle.formulas.specs.Bounds.{leastConductorResistance, mostResistance, mostSkinFactor, mostProximityFactor}
 use Rattle.formulas.specs.Refusals.{skinLimit}
-
--- Sums of values over T, and products of values that are at most 1.
-
-sum-close : {r c d n m : ℕ} {x y : Fraction} → Close r c x n → Close r d y m → Close r (c + d) (x +F y) (n + m)
-unfolding _+F_
-sum-close {c = c} {d} {n} {m} p q =
-    let same : (n over tera) +F (m over tera) ≃F n + m over tera =
-    record { left = mul-pos tera>0 tera>0; right = tera>0; across = omega arith }
-    in
-    let errors : (c over tera) +F (d over tera) ≤F c + d over tera =
-    record { left = mul-pos tera>0 tera>0; right = tera>0; across = omega arith }
-    in
-    rewrite-above same errors (within-sum p q)
-
-product-close :
-    {r s c d n m : ℕ} {x y : Fraction} → n ≤ trillion → m ≤ trillion → Close r c x n → Close s d y m →
-    Within (r + s) (c + d over tera) (x *F y) (n * m over tera * tera)
-unfolding _+F_ _*F_
-product-close {c = c} {d} {n} {m} n≤ m≤ p q =
-    let n≤1 : n over tera ≤F whole 1 = at-most 1 (omega arith) in
-    let m≤1 : m over tera ≤F whole 1 = at-most 1 (omega arith) in
-    let same : (n over tera) *F (m over tera) ≃F n * m over tera * tera = ≃F-refl _ (mul-pos tera>0 tera>0) in
-    let errors : (c over tera) *F whole 1 +F (d over tera) *F whole 1 ≤F c + d over tera =
-    record { left = omega (arith, mul-pos tera>0 tera>0); right = tera>0; across = omega arith }
-    in
-    rewrite-above same errors (within-product (≤F-trans (q .below) m≤1) n≤1 p q)
-
-no-units : whole 0 ≤F 0 over tera
-no-units = record { left = lit< tt; right = tera>0; across = omega arith }
 
 -- The proximity effect.
 
 pub spacingRatio-close : (dc : ℕ) {s : ℕ} → 0 < s → Close 0 1 (spacingRatio* dc s) (spacingRatio dc s)
 unfolding spacingRatio spacingRatio*
-spacingRatio-close dc {s} s>0 =
-    let ss>0 = mul-pos s>0 s>0 in
-    let same : dc * dc over s * s ≃F dc * dc * tera over s * s * tera =
-    record { left = ss>0; right = mul-pos ss>0 tera>0; across = omega arith }
-    in
-    round-up ss>0 (rewrite-above same no-units (within-refl (≤F-refl (dc * dc over s * s) ss>0)))
+spacingRatio-close dc s>0 = quotient-close (dc * dc) (mul-pos s>0 s>0)
 
 pub proximityH-close : {x : Fraction} {G : ℕ} → Close 132 2 x G → Close 132 10 (proximityH* x) (proximityH G)
 unfolding proximityH proximityH*
@@ -128,13 +96,6 @@ one-close : Close 132 0 (whole 1) tera
 one-close =
     let same : whole 1 ≃F tera over tera = record { left = lit< tt; right = tera>0; across = omega arith } in
     rewrite-above same no-units (within-weaken (lit≤ tt) (≤F-refl (whole 0) (lit< tt)) (within-refl (≤F-refl (whole 1) (lit< tt))))
-
--- c units are at most c parts of a value that is at least 1
-units-absorb : {r c n : ℕ} {x : Fraction} → tera ≤ n → Close r c x n → Within (r + c) (whole 0) x (n over tera)
-unfolding tera parts _*F_
-units-absorb {c = c} {n} n≥ p =
-    within-absorb c
-    (record { left = lit< tt; right = lit< tt; across = omega (arith, mul-le-mul-right (c * trillion) n≥) }) p
 
 pub acResistance-close :
     {r' ys yp : ℕ} {x y : Fraction} → In leastConductorResistance mostResistance r' → ys ≤ mostSkinFactor → yp ≤ mostProximityFactor →

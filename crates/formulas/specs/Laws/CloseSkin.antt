@@ -1,26 +1,15 @@
 -- Stage 3 against its exact values: A within 66 parts in 10^12, and z, w and the factor within twice that and a few units of
 -- 10^-12, which each rounding up to a whole number over T adds. Assumes nothing.
-use Prim.Native.Nat.{ℕ, _+_, _*_, _^_, _≤_, _<_}
-use native.Mathlib.Nat.{le-refl, mul-pos, mul-le-mul, mul-le-mul-right}
+use Prim.Native.Nat.{ℕ, _*_, _^_, _≤_, _<_}
+use native.Mathlib.Nat.{mul-pos, mul-le-mul}
 use native.Mathlib.Omega.{arith}
 use lib.Dec.{lit<, lit≤}
-use Rattle.exact.specs.Rounding.{up}
 use Rattle.exact.specs.Laws.Rounding.{up-least-below}
 use Rattle.exact.specs.Fraction.{Fraction, _over_, whole, _+F_, _*F_, reciprocal, _/F_, square, _≤F_, _≃F_}
 use Rattle.exact.specs.Laws.Fraction.{≃F-refl, ≤F-refl, ≤F-trans}
 use Rattle.exact.specs.Error.{Within}
-use Rattle.exact.specs.Laws.Error.{
-  within-weaken,
-  within-trans,
-  within-same,
-  within-times,
-  within-product,
-  within-saturate,
-  within-up,
-  within-scale,
-  within-round,
-}
-use Rattle.exact.specs.Trillion.{trillion}
+use Rattle.exact.specs.Laws.Error.{within-same, within-times, within-product, within-scale}
+use Rattle.exact.specs.Laws.RoundingError.{within-round}
 use Rattle.formulas.specs.Constants.{tera, piHigh, IsPi}
 use Rattle.formulas.specs.Skin.{
   skinReactance,
@@ -37,42 +26,7 @@ use Rattle.formulas.specs.Laws.Ranges.{In}
 use Rattle.formulas.specs.Laws.CloseReactance.{pi-within}
 use Rattle.formulas.specs.Laws.LogRange.{tera>0}
 use Rattle.formulas.specs.Refusals.{skinLimit}
-
--- Values over T.
-
--- n/T is x or above, by at most r parts in 10^12 of it and c units of 10^-12
-abbrev pub Close : ℕ → ℕ → Fraction → ℕ → Type 0
-Close r c x n = Within r (c over tera) x (n over tera)
-
-pub at-most : {n : ℕ} (m : ℕ) → n ≤ m * trillion → n over tera ≤F whole m
-unfolding tera
-at-most m n≤ = record { left = lit< tt; right = lit< tt; across = omega arith }
-
--- the same upper value written otherwise, under a larger error
-pub rewrite-above :
-    {r c : ℕ} {d x y y′ : Fraction} → y ≃F y′ → d ≤F c over tera → Within r d x y → Within r (c over tera) x y′
-rewrite-above y≃ d≤ p = within-weaken (le-refl _) d≤ (within-same (≃F-refl _ (p .below .left)) y≃ p)
-
--- rounding up to a whole number over T adds one unit
-pub round-up : {r c a b : ℕ} {x : Fraction} → 0 < b → Within r (c over tera) x (a over b * tera) → Close r (c + 1) x (up a b)
-unfolding _+F_ _*F_
-round-up {r} {c} {a} {b} {x} b>0 p =
-    let unit = 1 over tera in
-    let rounded : Within 0 (whole 1 *F unit) ((a over b) *F unit) (whole (up a b) *F unit) =
-    within-times (≤F-refl unit tera>0) (within-up a b>0)
-    in
-    let same-low : (a over b) *F unit ≃F a over b * tera =
-    record { left = mul-pos b>0 tera>0; right = mul-pos b>0 tera>0; across = omega arith }
-    in
-    let same-high : whole (up a b) *F unit ≃F up a b over tera =
-    record { left = omega (arith, tera>0); right = tera>0; across = omega arith }
-    in
-    let errors : (c over tera) +F whole 1 *F unit ≤F c + 1 over tera =
-    record { left = mul-pos tera>0 (omega (arith, tera>0)); right = tera>0; across = omega arith }
-    in
-    within-weaken (omega arith) errors (within-trans p (within-same same-low same-high rounded))
-
--- Stage 3.
+use Rattle.formulas.specs.Laws.OverT.{Close, over-at-most, rewrite-above, round-up, saturate-times}
 
 skinReactance-least : {f k : ℕ} → 1000 ≤ f → 120 ≤ k → 30000000000 ≤ skinReactance f k
 unfolding skinReactance piHigh
@@ -110,37 +64,12 @@ pub skinRatioSquared-close :
     {x : Fraction} {z : ℕ} → z ≤ skinLimit → Close 66 1 x z → Close 132 17 (square x) (skinRatioSquared z)
 unfolding skinRatioSquared _+F_ _*F_
 skinRatioSquared-close {x} {z} z≤ p =
-    let z≤8 : z over tera ≤F whole 8 = at-most 8 (omega arith) in
+    let z≤8 : z over tera ≤F whole 8 = over-at-most 8 (omega arith) in
     let same : (z over tera) *F (z over tera) ≃F z * z over tera * tera = ≃F-refl _ (mul-pos tera>0 tera>0) in
     let errors : (1 over tera) *F whole 8 +F (1 over tera) *F whole 8 ≤F 16 over tera =
     record { left = omega (arith, mul-pos tera>0 tera>0); right = tera>0; across = omega arith }
     in
     round-up tera>0 (rewrite-above same errors (within-product (≤F-trans (p .below) z≤8) z≤8 p p))
-
--- k x/(b + m x), where c units become at most d
-pub saturate-times :
-    (k b m : ℕ) {r c d n : ℕ} {x : Fraction} → 0 < b → c * k ≤ d * b → Close r c x n →
-    Within r (d over tera) (whole k *F x /F (whole b +F whole m *F x)) (k * n * tera over (b * tera + m * n) * tera)
-unfolding _+F_ _*F_ reciprocal
-saturate-times k b m {r} {c} {d} {n} {x} b>0 cd p =
-    let whole≤ : (a : ℕ) → whole a ≤F whole a = λ a. ≤F-refl (whole a) (lit< tt) in
-    let quotient : Within r ((c over tera) /F whole b *F whole k) (x /F (whole b +F whole m *F x) *F whole k)
-    ((n over tera) /F (whole b +F whole m *F (n over tera)) *F whole k) =
-    within-times (whole≤ k) (within-saturate {b = whole b} {m = whole m} b>0 (whole≤ b) (whole≤ m) p)
-    in
-    let low>0 = quotient .below .left in
-    let high>0 = quotient .below .right in
-    let same-low : x /F (whole b +F whole m *F x) *F whole k ≃F whole k *F x /F (whole b +F whole m *F x) =
-    record { left = low>0; right = omega (arith, low>0); across = omega arith }
-    in
-    let same-high :
-    (n over tera) /F (whole b +F whole m *F (n over tera)) *F whole k ≃F k * n * tera over (b * tera + m * n) * tera =
-    record { left = high>0; right = omega (arith, high>0); across = omega arith }
-    in
-    let errors : (c over tera) /F whole b *F whole k ≤F d over tera =
-    record { left = omega (arith, mul-pos tera>0 b>0); right = tera>0; across = omega (arith, mul-le-mul-right tera cd) }
-    in
-    within-weaken (le-refl r) errors (within-same same-low same-high quotient)
 
 pub factor-close : {x : Fraction} {w : ℕ} → Close 132 17 x w → Close 132 2 (factor* x) (factor w)
 unfolding factor factor*

@@ -1,62 +1,23 @@
--- The integer square root: a function that computes it, and what it is, the only r with r·r ≤ x < (r + 1)·(r + 1).
--- The rating of document 01's stage 10 is such a root. Assumes nothing.
-use mathlib.Core.Path.{_≡_, refl}
-use mathlib.Core.Bool.{Bool, true, false, cond}
-use Prim.Native.Nat.{ℕ, zero, suc, _+_, _*_, _/_, _^_, _≤_, _<_}
-use native.Mathlib.Nat.{le-antisymm, lt-of-not-le, mul-le-mul, pow-suc, pow-zero}
-use native.Mathlib.Omega.{arith}
+-- The integer square root: what it is, and a function that computes it. The rating of docs/RATING.md, stage 10, is such a root.
+-- Assumes nothing.
+use mathlib.Core.Bool.{cond}
+use Prim.Native.Nat.{ℕ, zero, suc, _+_, _*_, _/_, _≤_, _<_}
 use lib.Dec.{leb, eqb}
-use borrow.Author.Tests.{leb-true, leb-false, eqb-true}
 
 -- r is the integer square root of x
 pub record IsRoot (x r : ℕ) : Type 0 where
   pub below : r * r ≤ x
   pub above : x < (r + 1) * (r + 1)
 
-pub square-cancel-< : (a b : ℕ) → a * a < b * b → a < b
-square-cancel-< a b h = lt-of-not-le (λ b≤a. omega (arith, mul-le-mul b≤a b≤a))
-
-pub root-only : {x r s : ℕ} → IsRoot x r → IsRoot x s → r ≡ s
-root-only {x} {r} {s} p q =
-    le-antisymm
-    (omega (arith, square-cancel-< r (s + 1) (omega arith)))
-    (omega (arith, square-cancel-< s (r + 1) (omega arith)))
-
 -- one digit in base 4: from the root r of x/4 to the root of x
-unfoldable next : ℕ → ℕ → ℕ
+unfoldable pub next : ℕ → ℕ → ℕ
 next x r = cond (leb ((2 * r + 1) * (2 * r + 1)) x) (2 * r + 1) (2 * r)
 
 -- the root of x, which has at most `digits` digits in base 4
-unfoldable steps : ℕ → ℕ → ℕ
+unfoldable pub steps : ℕ → ℕ → ℕ
 steps zero x = 0
 steps (suc digits) x = let r = next x (steps digits (x / 4)) in cond (eqb x 0) 0 r
 
 unfoldable pub root : ℕ → ℕ
 unfolding steps next
 root x = steps x x
-
-next-root : (x r : ℕ) → IsRoot (x / 4) r → IsRoot x (next x r)
-unfolding next
-next-root x r p = go (leb ((2 * r + 1) * (2 * r + 1)) x) refl
-  where
-    go : (odd : Bool) → leb ((2 * r + 1) * (2 * r + 1)) x ≡ odd → IsRoot x (cond odd (2 * r + 1) (2 * r))
-    go true e = record { below = leb-true _ _ e; above = omega (arith, p .above) }
-    go false e = record { below = omega (arith, p .below); above = leb-false _ _ e }
-
-steps-root : (digits x : ℕ) → x < 4 ^ digits → IsRoot x (steps digits x)
-unfolding steps
-steps-root zero x h = record { below = omega arith; above = omega (arith, pow-zero 4) }
-steps-root (suc digits) x h =
-    go (eqb x 0) refl (next-root x _ (steps-root digits (x / 4) (omega (arith, pow-suc 4 digits))))
-  where
-    go : (none : Bool) → eqb x 0 ≡ none → IsRoot x (next x (steps digits (x / 4))) → IsRoot x (cond none 0 (next x (steps digits (x / 4))))
-    go true e p = record { below = omega arith; above = omega (arith, eqb-true x 0 e) }
-    go false e p = p
-
-below-power : (x : ℕ) → x < 4 ^ x
-below-power zero = omega (arith, pow-zero 4)
-below-power (suc x) = omega (arith, pow-suc 4 x, below-power x)
-
-pub root-is : (x : ℕ) → IsRoot x (root x)
-unfolding root
-root-is x = steps-root x x (below-power x)

@@ -1,4 +1,4 @@
--- Document 01, 'Stages', its opening: T, and the ends of pi and of ln 2. Assumes nothing.
+-- docs/RATING.md, 'Notation': T, and the ends of pi and of ln 2. Assumes nothing.
 use Prim.Native.Nat.{ℕ, _^_}
 use Rattle.exact.specs.Fraction.{Fraction, _over_, _≤F_}
 

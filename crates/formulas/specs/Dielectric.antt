@@ -1,4 +1,4 @@
--- Document 01, stage 9: the dielectric loss, the rise that it causes, and what it leaves of the permitted rise. Assumes nothing.
+-- docs/RATING.md, stage 9: the dielectric loss, the rise that it causes, and what it leaves of the permitted rise. Assumes nothing.
 use Prim.Native.Nat.{ℕ, _+_, _-_, _*_, _^_}
 use Rattle.exact.specs.Rounding.{up}
 use Rattle.exact.specs.Fraction.{Fraction, whole, _*F_, _/F_}

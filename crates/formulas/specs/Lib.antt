@@ -1,5 +1,6 @@
--- Document 01's stages as definitions, one file for each part of the document and in its order. Each stage stands twice: rounded,
--- as the paper writes it, and exact, in fractions, under the same name with a star. Assumes nothing.
+-- The stages of docs/RATING.md as definitions, one file for each and in its order. Each stage stands twice: rounded, as that page
+-- writes it, and exact, in fractions, under the same name with a star. The letters that a comment calls the paper's are those of that
+-- page. What follows from the definitions stands under Laws. Assumes nothing.
 pub mod Tables
 pub mod Constants
 pub mod Resistance
@@ -13,6 +14,5 @@ pub mod Armour
 pub mod Dielectric
 pub mod Rating
 pub mod Refusals
-pub mod Edges
-pub mod Values
+pub mod Bounds
 pub mod Laws

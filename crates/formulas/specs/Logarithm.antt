@@ -1,4 +1,4 @@
--- Document 01, stage 5: the two ends of the natural logarithm of a/b, for a ≥ b, over T. Assumes nothing.
+-- docs/RATING.md, stage 5: the two ends of the natural logarithm of a/b, for a ≥ b, over T. Assumes nothing.
 use mathlib.Core.Bool.{cond}
 use Prim.Native.Nat.{ℕ, zero, suc, _+_, _-_, _*_, _^_}
 use lib.Dec.{leb}

@@ -1,4 +1,4 @@
--- Document 01, stage 10: the rise that a current causes, and the rating. It takes n, R, S, W and T1 to T4 alone, so that every
+-- docs/RATING.md, stage 10: the rise that a current causes, and the rating. It takes n, R, S, W and T1 to T4 alone, so that every
 -- arrangement shares it. Assumes nothing.
 use Prim.Native.Nat.{ℕ, _+_, _*_, _^_}
 use Rattle.exact.specs.Rounding.{up, down}
@@ -12,7 +12,7 @@ unitRise n r s w t1 t2 t3 t4 =
 
 -- the largest I with I² E ≤ 10^13 N, in mA, from N and E
 unfoldable pub rating : ℕ → ℕ → ℕ
-rating n e = root (down (10 ^ 13 * n) e)
+rating N E = root (down (10 ^ 13 * N) E)
 
 unfoldable pub unitRise* : ℕ → Fraction → Fraction → Fraction → ℕ → ℕ → ℕ → ℕ → Fraction
 unitRise* n r s w t1 t2 t3 t4 =
@@ -22,4 +22,4 @@ unitRise* n r s w t1 t2 t3 t4 =
 
 -- the exact rise at a current in mA, in 10^-9 K, from E and dd
 unfoldable pub rise* : Fraction → Fraction → Fraction → Fraction
-rise* i e dd = square i *F e /F whole (10 ^ 13) +F dd
+rise* I E dd = square I *F E /F whole (10 ^ 13) +F dd

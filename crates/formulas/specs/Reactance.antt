@@ -1,4 +1,4 @@
--- Document 01, stage 2: 4πf × 10^-7 Ω/m, in 10^-16 Ω/m, from the frequency f in hundredths of Hz. Assumes nothing.
+-- docs/RATING.md, stage 2: 4πf × 10^-7 Ω/m, in 10^-16 Ω/m, from the frequency f in hundredths of Hz. Assumes nothing.
 use Prim.Native.Nat.{ℕ, _*_, _^_}
 use Rattle.exact.specs.Rounding.{up, down}
 use Rattle.exact.specs.Fraction.{Fraction, whole, _*F_}

@@ -1,12 +1,16 @@
--- Document 01, 'Refusals of a case': those that look at the stages, 8 to 11, each as a test of the numbers that it names.
+-- docs/RATING.md, 'The refusals': those that look at the stages, 8 to 11, each as a test of the numbers that it names.
 -- Assumes nothing.
 use mathlib.Core.Bool.{Bool, _||_}
 use Prim.Native.Nat.{ℕ, _*_, _^_}
 use lib.Dec.{ltb}
 
--- 8: z over 7.84 × 10^12, with ks or kp
+-- the largest z that the formulas of stages 3 and 4 are for: the standard's x up to 2.8
+abbrev pub skinLimit : ℕ
+skinLimit = 784 * 10 ^ 10
+
+-- 8: z over the limit, with ks or kp
 unfoldable pub skinRefused : ℕ → ℕ → Bool
-skinRefused zs zp = ltb (784 * 10 ^ 10) zs || ltb (784 * 10 ^ 10) zp
+skinRefused zs zp = ltb skinLimit zs || ltb skinLimit zp
 
 -- 9, in arrangements 3 and 4: 5B > Rs
 unfoldable pub eddyRefused : ℕ → ℕ → Bool

@@ -1,4 +1,4 @@
--- Document 01, stage 1: a resistance at a temperature. It is exact, so it stands once. Assumes nothing.
+-- docs/RATING.md, stage 1: a resistance at a temperature. It is exact, so it stands once. Assumes nothing.
 use Prim.Native.Nat.{ℕ, _*_}
 use lib.IntN.{ℤ, pos, _+ℤ_, _-ℤ_, _*ℤ_, natAbs}
 

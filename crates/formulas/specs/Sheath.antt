@@ -1,4 +1,4 @@
--- Document 01, stage 7: the loss in the sheath as a resistance, the paper's S. In arrangements 1, 2 and 5 it comes from the current
+-- docs/RATING.md, stage 7: the loss in the sheath as a resistance, the paper's S. In arrangements 1, 2 and 5 it comes from the current
 -- that circulates through the bonds, in 3 and 4 from eddies. Assumes nothing.
 use Prim.Native.Nat.{ℕ, _+_, _*_}
 use Rattle.exact.specs.Rounding.{up}
@@ -9,7 +9,7 @@ use Rattle.formulas.specs.Constants.{tera}
 
 -- the paper's v, from X and Rs
 unfoldable pub bondRatio : ℕ → ℕ → ℕ
-bondRatio x rs = up (x * tera) rs
+bondRatio X rs = up (X * tera) rs
 
 -- the paper's v2
 unfoldable pub bondRatioSquared : ℕ → ℕ
@@ -17,7 +17,7 @@ bondRatioSquared v = up (v * v) tera
 
 -- S in arrangements 1 and 2, from X and Rs
 unfoldable pub circulatingLoss : ℕ → ℕ → ℕ
-circulatingLoss x rs = let v2 = bondRatioSquared (bondRatio x rs) in up (rs * v2) (tera + v2)
+circulatingLoss X rs = let v2 = bondRatioSquared (bondRatio X rs) in up (rs * v2) (tera + v2)
 
 -- up(3S/2), the SL type's 1.5 of amendment 2, where the 1994 page has 1.7
 unfoldable pub threeHalves : ℕ → ℕ
@@ -25,7 +25,7 @@ threeHalves s = up (3 * s) 2
 
 -- S in arrangement 5
 unfoldable pub slLoss : ℕ → ℕ → ℕ
-slLoss x rs = threeHalves (circulatingLoss x rs)
+slLoss X rs = threeHalves (circulatingLoss X rs)
 
 -- Arrangements 3 and 4.
 
@@ -52,13 +52,13 @@ eddyLoss j b rs d s =
     up (3 * j * up (rs * e') tera * eddySpacing d s) tera
 
 unfoldable pub bondRatio* : Fraction → ℕ → Fraction
-bondRatio* x rs = x /F whole rs
+bondRatio* X rs = X /F whole rs
 
 unfoldable pub circulatingLoss* : Fraction → ℕ → Fraction
-circulatingLoss* x rs = let v2 = square (bondRatio* x rs) in whole rs *F v2 /F (whole 1 +F v2)
+circulatingLoss* X rs = let v2 = square (bondRatio* X rs) in whole rs *F v2 /F (whole 1 +F v2)
 
 unfoldable pub slLoss* : Fraction → ℕ → Fraction
-slLoss* x rs = (3 over 2) *F circulatingLoss* x rs
+slLoss* X rs = (3 over 2) *F circulatingLoss* X rs
 
 unfoldable pub eddyRatio* : Fraction → ℕ → Fraction
 eddyRatio* b rs = b /F whole (2 * rs)

@@ -1,4 +1,4 @@
--- Document 01, stage 3: the skin effect, from the frequency f, ks (or kp) in thousandths and R'. Assumes nothing.
+-- docs/RATING.md, stage 3: the skin effect, from the frequency f, ks (or kp) in thousandths and R'. Assumes nothing.
 use Prim.Native.Nat.{ℕ, _+_, _*_, _^_}
 use Rattle.exact.specs.Rounding.{up}
 use Rattle.exact.specs.Fraction.{Fraction, whole, _+F_, _*F_, _/F_, square}

@@ -1,4 +1,4 @@
--- Document 01, stage 6: the logarithm of the spacing, and the sheath's reactance. Assumes nothing.
+-- docs/RATING.md, stage 6: the logarithm of the spacing, and the sheath's reactance. Assumes nothing.
 use mathlib.Core.Bool.{cond}
 use Prim.Native.Nat.{ℕ, _+_, _*_}
 use lib.Dec.{eqb}
@@ -7,12 +7,16 @@ use Rattle.exact.specs.Fraction.{Fraction, whole, _+F_, _*F_, _/F_}
 use Rattle.formulas.specs.Constants.{tera, ln2ThirdLow, ln2ThirdHigh}
 use Rattle.formulas.specs.Logarithm.{logLow, logHigh}
 
--- the paper's L, its upper and its lower end: in arrangement 2 a third of ln 2 is added
+-- what an arrangement adds to the logarithm of 2s/d: arrangement 2 a third of ln 2
+abbrev pub thirdOf : ℕ → ℕ → ℕ
+thirdOf arrangement third = cond (eqb arrangement 2) third 0
+
+-- the paper's L, its upper and its lower end
 unfoldable pub spacingLogHigh : ℕ → ℕ → ℕ → ℕ
-spacingLogHigh arrangement s d = logHigh (2 * s) d + cond (eqb arrangement 2) ln2ThirdHigh 0
+spacingLogHigh arrangement s d = logHigh (2 * s) d + thirdOf arrangement ln2ThirdHigh
 
 unfoldable pub spacingLogLow : ℕ → ℕ → ℕ → ℕ
-spacingLogLow arrangement s d = logLow (2 * s) d + cond (eqb arrangement 2) ln2ThirdLow 0
+spacingLogLow arrangement s d = logLow (2 * s) d + thirdOf arrangement ln2ThirdLow
 
 -- the paper's X, from B and the upper end of L
 unfoldable pub sheathReactance : ℕ → ℕ → ℕ

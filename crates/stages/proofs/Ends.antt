@@ -1,45 +1,45 @@
--- The two ends of stage 5's logarithm have the same parts: the octaves, the first power, and thirteen terms. What the code needs
+-- The two ends of stage 5's logarithm have the same parts: the octaves, and thirteen terms from the first power. What the code needs
 -- of them is stated once, over the rounding. Assumes nothing.
-use mathlib.Core.Path.{_≡_, ap, _∙_}
-use Prim.Native.Nat.{ℕ, _+_, _-_, _*_, _≤_, _<_}
+use mathlib.Core.Path.{_≡_, ap, ap₂, _∙_}
+use Prim.Native.Nat.{ℕ, _*_, _^_, _≤_, _<_}
 use native.Mathlib.Nat.{le-trans, le-of-eq}
 use native.Mathlib.Omega.{arith}
+use Rattle.exact.specs.Trillion.{trillion}
 use Rattle.formulas.specs.Constants.{tera}
-use Rattle.formulas.specs.Logarithm.{octaves, doubled, firstPower, thirteenTerms}
-use Rattle.formulas.specs.Laws.Octaves.{octaves-largest}
+use Rattle.formulas.specs.Logarithm.{octaves, firstPower, thirteenTerms}
 use Rattle.formulas.specs.Laws.LogRange.{Bounded, firstPower-most, thirteenTerms-most, octaves-most}
+use Rattle.formulas.specs.Bounds.{mostPower, mostTerms}
+use Rattle.stages.specs.Reduced.{IsReduced}
+use Rattle.stages.proofs.Series.{fits}
 
 -- the two summands of an end, with what bounds them
 pub record Parts (round : ℕ → ℕ → ℕ) (a b terms count : ℕ) : Type 0 where
   pub terms-are : terms ≡ thirteenTerms round (firstPower round a b)
-  pub terms-most : terms ≤ 8666666666684
+  pub terms-most : terms ≤ mostTerms
   pub count-is : count ≡ octaves a b
   pub count-most : count ≤ 14
 
--- at a and b within the limits, for which `octaves` answers count and twice
+-- at a and b within the limits, for which `reduce` answers count and ζ
 module _
-    {a b count twice : ℕ}
+    {a b count num den : ℕ} {round : ℕ → ℕ → ℕ} (bounded : Bounded round)
     (limits : (0 < b) × (b ≤ a) × (a ≤ 2000000) × (a < 32768 * b))
-    (answer : (count ≡ octaves a b) × (twice ≡ doubled a b)) where
-  pub twice-most : twice ≤ a
-  unfolding doubled
-  twice-most = omega (arith, octaves-largest a b (limits .0) (limits .1) .below)
+    (reduced : IsReduced a b count num den) where
+  first-is : round (num * trillion) den ≡ firstPower round a b
+  unfolding firstPower tera
+  first-is = ap₂ (λ n d. round (n * trillion) d) (reduced .num-is) (reduced .den-is)
 
-  module _ {round : ℕ → ℕ → ℕ} (bounded : Bounded round) where
-    first-is : round ((a - twice) * 1000000000000) (a + twice) ≡ firstPower round a b
-    unfolding firstPower tera
-    first-is = ap (λ x. round ((a - x) * 1000000000000) (a + x)) (answer .1)
+  pub first-most : round (num * trillion) den ≤ mostPower
+  first-most = le-trans (le-of-eq first-is) (firstPower-most bounded a b (limits .0) (limits .1))
 
-    pub first-most : round ((a - twice) * 1000000000000) (a + twice) ≤ 333333333334
-    first-most = le-trans (le-of-eq first-is) (firstPower-most bounded a b (limits .0) (limits .1))
+  pub first-fits : (0 < den) × (round (num * trillion) den < 2 ^ 64)
+  first-fits = (omega (arith, reduced .den-is), fits first-most)
 
-    pub parts :
-        {first terms : ℕ} → first ≡ round ((a - twice) * 1000000000000) (a + twice) → terms ≡ thirteenTerms round first →
-        Parts round a b terms count
-    parts {first} first-of terms-of =
-        record {
-          terms-are = terms-of ∙ ap (λ p. thirteenTerms round p) (first-of ∙ first-is);
-          terms-most = omega (arith, thirteenTerms-most bounded first (omega (arith, first-most)));
-          count-is = answer .0;
-          count-most = omega (arith, octaves-most a b (limits .0) (limits .1) (limits .3));
-        }
+  pub parts :
+      {first terms : ℕ} → first ≡ round (num * trillion) den → terms ≡ thirteenTerms round first → Parts round a b terms count
+  parts {first} first-of terms-of =
+      record {
+        terms-are = terms-of ∙ ap (λ p. thirteenTerms round p) (first-of ∙ first-is);
+        terms-most = omega (arith, thirteenTerms-most bounded first (omega (arith, first-most)));
+        count-is = reduced .octaves-are;
+        count-most = omega (arith, octaves-most a b (limits .0) (limits .1) (limits .3), reduced .octaves-are);
+      }

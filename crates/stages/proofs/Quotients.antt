@@ -1,13 +1,28 @@
--- What `wide`'s quotients require: the divisor is above 0, and the quotient fits, since it is at most a number that does.
--- Assumes nothing.
+-- What `wide`'s quotients require: the divisor is above 0, and the quotient fits, since it is at most a number that does. Stated once
+-- over the rounding. Assumes nothing.
+use mathlib.Core.Path.{_≡_}
 use Prim.Native.Nat.{ℕ, _*_, _^_, _≤_, _<_}
-use native.Mathlib.Nat.{lt-of-le-of-lt}
+use native.Mathlib.Nat.{le-trans, lt-of-le-of-lt, mul-le-mul}
 use native.Mathlib.Omega.{arith}
-use lib.Dec.{T, ltb, lit<}
-use Rattle.exact.specs.Rounding.{up, down, up-least, down-most-above}
+use lib.Dec.{T, leb, ltb, lit<, lit≤}
+use Rattle.exact.specs.Rounding.{up, down}
+use Rattle.exact.specs.Trillion.{trillion}
+use Rattle.formulas.specs.Laws.LogRange.{Bounded, up-bounded, down-bounded}
+
+module _ {round : ℕ → ℕ → ℕ} (bounded : Bounded round) where
+  fits : {a b : ℕ} (k : ℕ) → 0 < b → a ≤ k * b → T (ltb k (2 ^ 64)) → round a b < 2 ^ 64
+  fits {a} {b} k b>0 h small = lt-of-le-of-lt (bounded a k b b>0 h) (lit< small)
+
+  -- the square over T of a quotient v that is at most m
+  pub square-fits :
+      {a b v : ℕ} (m k : ℕ) → v ≡ round a b → 0 < b → a ≤ m * b → T (leb (m * m) (k * trillion)) → T (ltb k (2 ^ 64)) →
+      round (v * v) trillion < 2 ^ 64
+  square-fits {a} {b} {v} m k v-is b>0 h square≤ small =
+      let v≤ : v ≤ m = omega (arith, bounded a m b b>0 h) in
+      fits k (lit< tt) (le-trans (mul-le-mul v≤ v≤) (lit≤ square≤)) small
 
 pub fits-up : {a b : ℕ} (k : ℕ) → 0 < b → a ≤ k * b → T (ltb k (2 ^ 64)) → up a b < 2 ^ 64
-fits-up {a} k b>0 h small = lt-of-le-of-lt (up-least a k b>0 h) (lit< small)
+fits-up = fits up-bounded
 
 pub fits-down : {a b : ℕ} (k : ℕ) → 0 < b → a ≤ k * b → T (ltb k (2 ^ 64)) → down a b < 2 ^ 64
-fits-down {a} k b>0 h small = lt-of-le-of-lt (down-most-above a k b>0 (omega arith)) (lit< small)
+fits-down = fits down-bounded

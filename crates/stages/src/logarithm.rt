@@ -2,34 +2,44 @@
 ghost use mathlib.Core.Path.{_≡_};
 ghost use Prim.Native.Nat.{_*_, _≤_, _<_};
 ghost use Rattle.exact.specs.Rounding.{up, down};
-ghost use Rattle.formulas.specs.Logarithm.{octaves, doubled, thirteenTerms, logLow, logHigh};
+ghost use Rattle.formulas.specs.Logarithm.{thirteenTerms, logLow, logHigh};
+ghost use Rattle.formulas.specs.Bounds.{mostPower};
+ghost use Rattle.stages.specs.Reduced.{IsReduced};
+use super::constants::LN2_HIGH;
+use super::constants::LN2_LOW;
 use wide::ratio::mul_div_down;
 use wide::ratio::mul_div_up;
+use wide::trillion::T;
 use wide::trillion::mul_div_down_trillion;
 use wide::trillion::mul_div_up_trillion;
 
-// How often b can be doubled, and b doubled that often.
-pub struct Doubled {
-    pub count: u64,
-    pub doubled: u64,
+// a/b without its octaves: how often b can be doubled and stay at most a, and the ζ that is left, as num over den.
+pub struct Reduced {
+    pub octaves: u64,
+    pub num: u64,
+    pub den: u64,
 }
 
-fn octaves(a: u64, b: u64) -> Doubled
+fn reduce(a: u64, b: u64) -> Reduced
     requires { ⌜ (0 < b) × (b ≤ a) × (a ≤ 2000000) ⌝ }
-    ensures { λ r. ⌜ (r .count ≡ octaves a b) × (r .doubled ≡ doubled a b) ⌝ }
+    ensures { λ r. ⌜ IsReduced a b (r .octaves) (r .num) (r .den) ⌝ }
 {
-    let mut count: u64 = 0;
+    let mut octaves: u64 = 0;
     let mut doubled = b;
     while 2 * doubled <= a {
-        count += 1;
+        octaves += 1;
         doubled = 2 * doubled;
     }
-    Doubled { count, doubled }
+    Reduced {
+        octaves,
+        num: a - doubled,
+        den: a + doubled,
+    }
 }
 
 // A power of 1 stays 1, and each term after the first is then 1.
 fn thirteen_terms_up(first: u64) -> u64
-    requires { ⌜ first ≤ 333333333334 ⌝ }
+    requires { ⌜ first ≤ mostPower ⌝ }
     ensures { λ r. ⌜ r ≡ thirteenTerms up first ⌝ }
 {
     let q = mul_div_up_trillion(first, first);
@@ -49,7 +59,7 @@ fn thirteen_terms_up(first: u64) -> u64
 
 // A power of 0 stays 0, and adds nothing.
 fn thirteen_terms_down(first: u64) -> u64
-    requires { ⌜ first ≤ 333333333334 ⌝ }
+    requires { ⌜ first ≤ mostPower ⌝ }
     ensures { λ r. ⌜ r ≡ thirteenTerms down first ⌝ }
 {
     let q = mul_div_down_trillion(first, first);
@@ -71,16 +81,14 @@ pub fn log_high(a: u64, b: u64) -> u64
     requires { ⌜ (0 < b) × (b ≤ a) × (a ≤ 2000000) × (a < 32768 * b) ⌝ }
     ensures { λ r. ⌜ r ≡ logHigh a b ⌝ }
 {
-    let k = octaves(a, b);
-    let p = mul_div_up(a - k.doubled, 1000000000000, a + k.doubled);
-    thirteen_terms_up(p) + 1 + 693147180560 * k.count
+    let z = reduce(a, b);
+    thirteen_terms_up(mul_div_up(z.num, T, z.den)) + 1 + LN2_HIGH * z.octaves
 }
 
 pub fn log_low(a: u64, b: u64) -> u64
     requires { ⌜ (0 < b) × (b ≤ a) × (a ≤ 2000000) × (a < 32768 * b) ⌝ }
     ensures { λ r. ⌜ r ≡ logLow a b ⌝ }
 {
-    let k = octaves(a, b);
-    let p = mul_div_down(a - k.doubled, 1000000000000, a + k.doubled);
-    thirteen_terms_down(p) + 693147180559 * k.count
+    let z = reduce(a, b);
+    thirteen_terms_down(mul_div_down(z.num, T, z.den)) + LN2_LOW * z.octaves
 }

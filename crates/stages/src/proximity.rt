@@ -1,41 +1,46 @@
 // Stage 4: the proximity effect and the a.c. resistance.
 ghost use mathlib.Core.Path.{_≡_};
 ghost use Prim.Native.Nat.{_≤_, _<_};
+ghost use Rattle.exact.specs.Trillion.{trillion};
 ghost use Rattle.formulas.specs.Proximity.{spacingRatio, proximityH, proximityG, proximityFactor, acResistance};
+ghost use Rattle.formulas.specs.Bounds.{mostResistance, mostSkinFactor, mostProximityFactor};
 use wide::ratio::mul_div_up;
+use wide::trillion::T;
 use wide::trillion::mul_div_up_trillion;
 
 pub fn spacing_ratio(dc: u64, s: u64) -> u64
     requires { ⌜ (0 < s) × (s ≤ 1000000) × (dc ≤ s) ⌝ }
     ensures { λ r. ⌜ r ≡ spacingRatio dc s ⌝ }
 {
-    mul_div_up(dc * dc, 1000000000000, s * s)
+    mul_div_up(dc * dc, T, s * s)
 }
 
-fn proximity_h(g: u64) -> u64
-    requires { ⌜ g ≤ 254900000000 ⌝ }
-    ensures { λ r. ⌜ r ≡ proximityH g ⌝ }
+// h, of the factor with kp, the G of docs/RATING.md.
+fn proximity_h(factor: u64) -> u64
+    requires { ⌜ factor ≤ mostSkinFactor ⌝ }
+    ensures { λ r. ⌜ r ≡ proximityH factor ⌝ }
 {
-    mul_div_up(118 * g, 1000000000000, 100 * g + 27000000000000)
+    mul_div_up(118 * factor, T, 100 * factor + 27 * T)
 }
 
-fn proximity_g(u: u64, g: u64) -> u64
-    requires { ⌜ (u ≤ 1000000000000) × (g ≤ 254900000000) ⌝ }
-    ensures { λ r. ⌜ r ≡ proximityG u g ⌝ }
+// g, of u and the same factor.
+fn proximity_g(u: u64, factor: u64) -> u64
+    requires { ⌜ (u ≤ trillion) × (factor ≤ mostSkinFactor) ⌝ }
+    ensures { λ r. ⌜ r ≡ proximityG u factor ⌝ }
 {
-    mul_div_up(312 * u, g, 1000000000000000)
+    mul_div_up(312 * u, factor, 1000000000000000)
 }
 
-pub fn proximity_factor(u: u64, g: u64) -> u64
-    requires { ⌜ (u ≤ 1000000000000) × (g ≤ 254900000000) ⌝ }
-    ensures { λ r. ⌜ r ≡ proximityFactor u g ⌝ }
+pub fn proximity_factor(u: u64, factor: u64) -> u64
+    requires { ⌜ (u ≤ trillion) × (factor ≤ mostSkinFactor) ⌝ }
+    ensures { λ r. ⌜ r ≡ proximityFactor u factor ⌝ }
 {
-    mul_div_up_trillion(u, proximity_g(u, g) + proximity_h(g))
+    mul_div_up_trillion(u, proximity_g(u, factor) + proximity_h(factor))
 }
 
 pub fn ac_resistance(rc: u64, ys: u64, yp: u64) -> u64
-    requires { ⌜ (rc ≤ 407000000000000) × (ys ≤ 254900000000) × (yp ≤ 680000000000) ⌝ }
+    requires { ⌜ (rc ≤ mostResistance) × (ys ≤ mostSkinFactor) × (yp ≤ mostProximityFactor) ⌝ }
     ensures { λ r. ⌜ r ≡ acResistance rc ys yp ⌝ }
 {
-    mul_div_up_trillion(rc, 1000000000000 + ys + yp)
+    mul_div_up_trillion(rc, T + ys + yp)
 }

@@ -3,6 +3,7 @@ ghost use mathlib.Core.Path.{_≡_};
 ghost use Prim.Native.Nat.{_*_, _≤_};
 ghost use Rattle.exact.specs.Rounding.{up};
 ghost use Rattle.formulas.specs.Rating.{unitRise, rating};
+ghost use Rattle.formulas.specs.Bounds.{mostAcResistance, mostSheathLoss, mostArmourLoss, mostCurrentRise, leastUnitRise};
 use wide::ratio::mul_div_down;
 use wide::ratio::mul_div_up;
 use wide::root::root;
@@ -16,7 +17,7 @@ fn rise(r: u64, t: u64) -> u64
 }
 
 pub fn unit_rise(n: u64, r: u64, s: u64, w: u64, t1: u64, t2: u64, t3: u64, t4: u64) -> u64
-    requires { ⌜ (n ≤ 3) × (r ≤ 788000000000000) × (s ≤ 610500000000000) × (w ≤ 500610000000000) ⌝
+    requires { ⌜ (n ≤ 3) × (r ≤ mostAcResistance) × (s ≤ mostSheathLoss) × (w ≤ mostArmourLoss) ⌝
         ∗ ⌜ (t1 ≤ 10000000) × (t2 ≤ 10000000) × (t3 ≤ 10000000) × (t4 ≤ 20000000) ⌝ }
     ensures { λ u. ⌜ u ≡ unitRise n r s w t1 t2 t3 t4 ⌝ }
 {
@@ -24,7 +25,7 @@ pub fn unit_rise(n: u64, r: u64, s: u64, w: u64, t1: u64, t2: u64, t3: u64, t4: 
 }
 
 pub fn rating(n: u64, e: u64) -> u64
-    requires { ⌜ (n ≤ 290000000000) × (36500000 ≤ e) ⌝ }
+    requires { ⌜ (n ≤ mostCurrentRise) × (leastUnitRise ≤ e) ⌝ }
     ensures { λ r. ⌜ r ≡ rating n e ⌝ }
 {
     root(mul_div_down(10000000000000, n, e))

@@ -12,50 +12,52 @@ ghost use Rattle.formulas.specs.Sheath.{
   eddySpacing,
   eddyLoss,
 };
+ghost use Rattle.formulas.specs.Bounds.{leastSheathResistance, mostResistance, mostSheathReactance};
 use wide::ratio::mul_div_up;
+use wide::trillion::T;
 use wide::trillion::mul_div_up_trillion;
 
 fn bond_ratio_squared(x: u64, rs: u64) -> u64
-    requires { ⌜ (x ≤ 15200000000000) × (7300000000 ≤ rs) ⌝ }
+    requires { ⌜ (x ≤ mostSheathReactance) × (leastSheathResistance ≤ rs) ⌝ }
     ensures { λ r. ⌜ r ≡ bondRatioSquared (bondRatio x rs) ⌝ }
 {
-    let v = mul_div_up(x, 1000000000000, rs);
+    let v = mul_div_up(x, T, rs);
     mul_div_up_trillion(v, v)
 }
 
 pub fn circulating_loss(x: u64, rs: u64) -> u64
-    requires { ⌜ (x ≤ 15200000000000) × (7300000000 ≤ rs) × (rs ≤ 407000000000000) ⌝ }
+    requires { ⌜ (x ≤ mostSheathReactance) × (leastSheathResistance ≤ rs) × (rs ≤ mostResistance) ⌝ }
     ensures { λ r. ⌜ r ≡ circulatingLoss x rs ⌝ }
 {
     let v2 = bond_ratio_squared(x, rs);
-    mul_div_up(rs, v2, 1000000000000 + v2)
+    mul_div_up(rs, v2, T + v2)
 }
 
 pub fn sl_loss(x: u64, rs: u64) -> u64
-    requires { ⌜ (x ≤ 15200000000000) × (7300000000 ≤ rs) × (rs ≤ 407000000000000) ⌝ }
+    requires { ⌜ (x ≤ mostSheathReactance) × (leastSheathResistance ≤ rs) × (rs ≤ mostResistance) ⌝ }
     ensures { λ r. ⌜ r ≡ slLoss x rs ⌝ }
 {
     (3 * circulating_loss(x, rs) + 1) / 2
 }
 
 fn eddy_factor(b: u64, rs: u64) -> u64
-    requires { ⌜ (0 < rs) × (rs ≤ 407000000000000) × (5 * b ≤ rs) ⌝ }
+    requires { ⌜ (0 < rs) × (rs ≤ mostResistance) × (5 * b ≤ rs) ⌝ }
     ensures { λ r. ⌜ r ≡ eddyFactor (eddyRatioSquared (eddyRatio b rs)) ⌝ }
 {
-    let m = mul_div_up(b, 1000000000000, 2 * rs);
+    let m = mul_div_up(b, T, 2 * rs);
     let m2 = mul_div_up_trillion(m, m);
-    mul_div_up(m2, 1000000000000, 1000000000000 + m2)
+    mul_div_up(m2, T, T + m2)
 }
 
 fn eddy_spacing(d: u64, s: u64) -> u64
     requires { ⌜ (0 < s) × (s ≤ 1000000) × (d ≤ s) ⌝ }
     ensures { λ r. ⌜ r ≡ eddySpacing d s ⌝ }
 {
-    mul_div_up(d * d, 1000000000000, 4 * (s * s))
+    mul_div_up(d * d, T, 4 * (s * s))
 }
 
 pub fn eddy_loss(j: u64, b: u64, rs: u64, d: u64, s: u64) -> u64
-    requires { ⌜ (j ≤ 2) × (0 < rs) × (rs ≤ 407000000000000) × (5 * b ≤ rs) × (0 < s) × (s ≤ 1000000) × (d ≤ s) ⌝ }
+    requires { ⌜ (j ≤ 2) × (0 < rs) × (rs ≤ mostResistance) × (5 * b ≤ rs) × (0 < s) × (s ≤ 1000000) × (d ≤ s) ⌝ }
     ensures { λ r. ⌜ r ≡ eddyLoss j b rs d s ⌝ }
 {
     let inner = mul_div_up_trillion(rs, eddy_factor(b, rs));

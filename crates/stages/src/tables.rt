@@ -1,4 +1,4 @@
-// The constant tables of document 01: ks and kp by conductor code, and the metals' coefficients.
+// The constant tables of docs/RATING.md: ks and kp by conductor code, and the metals' coefficients.
 ghost use mathlib.Core.Path.{_≡_};
 ghost use Prim.Native.Nat.{_≤_};
 ghost use Rattle.formulas.specs.Tables as Tables;

@@ -1,4 +1,4 @@
--- The number that two limbs stand for.
+-- The number that two limbs stand for. Assumes nothing.
 use Prim.Native.Nat.{ℕ, _+_, _*_, _^_}
 use Rattle.wide.specs.declared.limbs.Wide.{Wide}
 

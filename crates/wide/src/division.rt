@@ -1,6 +1,7 @@
 // Division of a two-limb number by one limb, where the quotient is one limb: long division with digits of 32 bits.
 ghost use mathlib.Core.Path.{_≡_};
 ghost use Prim.Native.Nat.{_+_, _-_, _*_, _^_, _≤_, _<_};
+ghost use Rattle.wide.specs.Shift.{IsShift};
 ghost use Rattle.wide.specs.Split.{Split, upward};
 
 pub struct Divided {
@@ -11,7 +12,7 @@ pub struct Divided {
 // The shift that brings the top bit of c to bit 63.
 pub fn shift_of(c: u64) -> u32
     requires { ⌜ 0 < c ⌝ }
-    ensures { λ r. ⌜ (r < 64) × (2 ^ 63 ≤ c * 2 ^ r) × (c * 2 ^ r < 2 ^ 64) ⌝ }
+    ensures { λ r. ⌜ IsShift c r ⌝ }
 {
     u64::leading_zeros(c)
 }
@@ -72,7 +73,7 @@ fn digit(u: u64, next: u64, v: u64) -> Divided
 }
 
 // Both numbers are shifted until the divisor has its top bit set: the quotient stays, and the rest is shifted too.
-fn long(hi: u64, lo: u64, c: u64) -> Divided
+fn long_division(hi: u64, lo: u64, c: u64) -> Divided
     requires { ⌜ hi < c ⌝ }
     ensures { λ r. ⌜ Split (hi * 2 ^ 64 + lo) c (r .quotient) (r .rest) ⌝ }
 {
@@ -99,7 +100,7 @@ pub fn divide(hi: u64, lo: u64, c: u64) -> Divided
             rest: lo % c,
         };
     }
-    long(hi, lo, c)
+    long_division(hi, lo, c)
 }
 
 // The quotient, and one more where something is left over.

@@ -8,17 +8,18 @@ use super::division::divide;
 use super::limbs::Wide;
 use super::limbs::sum;
 
-struct Long {
+// A quotient of two limbs, and what is left over.
+struct WideDivided {
     quotient: Wide,
     rest: u64,
 }
 
-fn divided(w: Wide, c: u64) -> Long
+fn divided(w: Wide, c: u64) -> WideDivided
     requires { ⌜ 0 < c ⌝ }
     ensures { λ r. ⌜ Split (value w) c (value (r .quotient)) (r .rest) ⌝ }
 {
     let low = divide(w.hi % c, w.lo, c);
-    Long {
+    WideDivided {
         quotient: Wide {
             hi: w.hi / c,
             lo: low.quotient,

@@ -1,6 +1,7 @@
 // The square root of a u64, rounded down: a guess by a table, one step of Newton's method from it, which brings it to the
 // root or above, and more steps while it is above. The guess decides only how many steps there are: mostly one.
-ghost use Prim.Native.Nat.{_+_, _*_, _^_, _≤_, _<_};
+ghost use Prim.Native.Nat.{_+_, _*_, _^_, _<_};
+ghost use Rattle.exact.specs.Root.{IsRoot};
 use super::division::shift_of;
 
 // The curve of the roots from i/32 to (i + 1)/32, as 24, 20 and 20 bits: where it starts, how far it rises, and four times
@@ -72,7 +73,7 @@ fn stepped(x: u64, g: u64) -> u64
 }
 
 pub fn root(x: u64) -> u64
-    ensures { λ r. ⌜ (r * r ≤ x) × (x < (r + 1) * (r + 1)) ⌝ }
+    ensures { λ r. ⌜ IsRoot x r ⌝ }
 {
     if x == 0 {
         return 0;

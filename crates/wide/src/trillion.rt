@@ -3,19 +3,23 @@
 ghost use mathlib.Core.Path.{_≡_};
 ghost use Prim.Native.Nat.{_+_, _*_, _^_, _<_};
 ghost use Rattle.exact.specs.Rounding.{up, down};
+ghost use Rattle.exact.specs.Trillion.{trillion};
 ghost use Rattle.wide.specs.Split.{Split};
 use super::division::Divided;
 use super::division::rounded_up;
 use super::limbs::product;
 
+// 10^12, the T of docs/RATING.md.
+pub const T: u64 = 1_000_000_000_000;
+
 fn divide(hi: u64, lo: u64) -> Divided
-    requires { ⌜ hi < 1000000000000 ⌝ }
-    ensures { λ r. ⌜ Split (hi * 2 ^ 64 + lo) 1000000000000 (r .quotient) (r .rest) ⌝ }
+    requires { ⌜ hi < trillion ⌝ }
+    ensures { λ r. ⌜ Split (hi * 2 ^ 64 + lo) trillion (r .quotient) (r .rest) ⌝ }
 {
     if hi == 0 {
         return Divided {
-            quotient: lo / 1000000000000,
-            rest: lo % 1000000000000,
+            quotient: lo / T,
+            rest: lo % T,
         };
     }
     // the number without its 44 low bits, then the 32 bits below, then the 12 that 2^12 leaves over
@@ -28,23 +32,23 @@ fn divide(hi: u64, lo: u64) -> Divided
 }
 
 fn mul_div(a: u64, b: u64) -> Divided
-    requires { ⌜ down (a * b) 1000000000000 < 2 ^ 64 ⌝ }
-    ensures { λ r. ⌜ Split (a * b) 1000000000000 (r .quotient) (r .rest) ⌝ }
+    requires { ⌜ down (a * b) trillion < 2 ^ 64 ⌝ }
+    ensures { λ r. ⌜ Split (a * b) trillion (r .quotient) (r .rest) ⌝ }
 {
     let n = product(a, b);
     divide(n.hi, n.lo)
 }
 
 pub fn mul_div_down_trillion(a: u64, b: u64) -> u64
-    requires { ⌜ down (a * b) 1000000000000 < 2 ^ 64 ⌝ }
-    ensures { λ r. ⌜ r ≡ down (a * b) 1000000000000 ⌝ }
+    requires { ⌜ down (a * b) trillion < 2 ^ 64 ⌝ }
+    ensures { λ r. ⌜ r ≡ down (a * b) trillion ⌝ }
 {
     mul_div(a, b).quotient
 }
 
 pub fn mul_div_up_trillion(a: u64, b: u64) -> u64
-    requires { ⌜ up (a * b) 1000000000000 < 2 ^ 64 ⌝ }
-    ensures { λ r. ⌜ r ≡ up (a * b) 1000000000000 ⌝ }
+    requires { ⌜ up (a * b) trillion < 2 ^ 64 ⌝ }
+    ensures { λ r. ⌜ r ≡ up (a * b) trillion ⌝ }
 {
     rounded_up(mul_div(a, b))
 }

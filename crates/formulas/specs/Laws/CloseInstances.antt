@@ -1,12 +1,13 @@
 -- The laws of the exact rise applied to one cable, so that all their premises are seen to be met together: the three-core SL type of
 -- 124 microhm/m at 19 kV and 50 Hz, from its resistances on. It rates 457.106 A. Assumes nothing.
-use Prim.Native.Nat.{ℕ, _-_, _*_, _^_, _≤_, _<_}
-use native.Mathlib.Nat.{mul-le-mul-right}
+use Prim.Native.Nat.{ℕ, _-_, _*_, _^_, _≤_}
 use native.Mathlib.Omega.{arith}
 use lib.Dec.{lit<, lit≤}
 use Rattle.exact.specs.Rounding.{up, down}
-use Rattle.exact.specs.Fraction.{Fraction, _over_, whole, _≤F_, _<F_, ≤F-refl}
-use Rattle.exact.specs.Error.{Within, within-weaken}
+use Rattle.exact.specs.Fraction.{Fraction, _over_, whole, _≤F_, _<F_}
+use Rattle.exact.specs.Laws.Fraction.{closed≤, whole-mono, ≤F-refl}
+use Rattle.exact.specs.Error.{Within}
+use Rattle.exact.specs.Laws.Error.{within-weaken}
 use Rattle.formulas.specs.Constants.{tera, piLow, piHigh, ln2Low, ln2High, IsPi, IsLn2}
 use Rattle.formulas.specs.Reactance.{reactance, reactanceLow, reactance*}
 use Rattle.formulas.specs.Skin.{skinReactance, skinRatio, skinRatioSquared, factor, skinFactor, skinFactor*}
@@ -29,11 +30,21 @@ use Rattle.formulas.specs.Spacing.{
   spacingLog*,
   sheathReactance*,
 }
-use Rattle.formulas.specs.Sheath.{bondRatio, bondRatioSquared, circulatingLoss, threeHalves, slLoss, circulatingLoss*, slLoss*, eddyLoss, eddyLoss*}
+use Rattle.formulas.specs.Sheath.{
+  bondRatio,
+  bondRatioSquared,
+  circulatingLoss,
+  threeHalves,
+  slLoss,
+  circulatingLoss*,
+  slLoss*,
+  eddyLoss,
+  eddyLoss*,
+}
 use Rattle.formulas.specs.Armour.{
   armourRatio,
   armourRatioSquared,
-  armourResistance,
+  reducedArmourResistance,
   unscreenedLoss,
   screeningRatioSquared,
   screenedLoss,
@@ -44,15 +55,16 @@ use Rattle.formulas.specs.Dielectric.{dielectricLoss, dielectricResistan
 use Rattle.formulas.specs.Rating.{unitRise, unitRise*, rise*}
 use Rattle.formulas.specs.Laws.Ranges.{In, reactance-range}
 use Rattle.formulas.specs.Laws.Current.{IsRating}
-use Rattle.formulas.specs.Laws.CloseResistance.{resistance-close}
+use Rattle.formulas.specs.Laws.CloseProximity.{resistance-close}
 use Rattle.formulas.specs.Laws.CloseSpacing.{sheathReactance-close, sheathReactance-least, spacingLogHigh-least}
 use Rattle.formulas.specs.Laws.CloseSheath.{circulating-close, sl-close}
 use Rattle.formulas.specs.Laws.CloseEddy.{eddy-close}
-use Rattle.formulas.specs.Laws.CloseScreening.{sheathReactanceLow-close, sheathReactanceLow-least}
+use Rattle.formulas.specs.Laws.CloseSpacingLow.{sheathReactanceLow-close, sheathReactanceLow-least}
 use Rattle.formulas.specs.Laws.CloseArmour.{armour-close}
 use Rattle.formulas.specs.Laws.CloseDielectric.{loss-close, dielectric-close}
 use Rattle.formulas.specs.Laws.CloseUnitRise.{unitRise-close}
-use Rattle.formulas.specs.Laws.CloseRise.{Rated, rise-safe, rise-above}
+use Rattle.formulas.specs.Laws.CloseRise.{Stage10, rise-safe, rise-above}
+use Rattle.formulas.specs.Bounds.{leastConductorResistance, leastSheathResistance, mostResistance, leastSheathReactance}
 
 -- What stands for pi, ln 2, and the logarithms of 2s/d = 84/40 and Di/ds = 36/17.5.
 
@@ -72,32 +84,32 @@ is-pi : IsPi π
 unfolding piLow piHigh
 is-pi =
     record {
-      at-least = record { left = lit< tt; right = lit< tt; across = lit≤ tt };
-      at-most = record { left = lit< tt; right = lit< tt; across = lit≤ tt };
+      at-least = closed≤ tt;
+      at-most = closed≤ tt;
     }
 
 is-ln2 : IsLn2 ln2
 unfolding ln2Low ln2High tera
 is-ln2 =
     record {
-      at-least = record { left = lit< tt; right = lit< tt; across = lit≤ tt };
-      at-most = record { left = lit< tt; right = lit< tt; across = lit≤ tt };
+      at-least = closed≤ tt;
+      at-most = closed≤ tt;
     }
 
 is-log-spacing : IsLog (2 * 4200) 4000 log-spacing
 unfolding logLow logHigh thirteenTerms series firstPower doubled octaves doublings ln2Low ln2High tera up down
 is-log-spacing =
     record {
-      at-least = record { left = lit< tt; right = lit< tt; across = lit≤ tt };
-      at-most = record { left = lit< tt; right = lit< tt; across = lit≤ tt };
+      at-least = closed≤ tt;
+      at-most = closed≤ tt;
     }
 
 is-log-insulation : IsLog 3600 1750 log-insulation
 unfolding logLow logHigh thirteenTerms series firstPower doubled octaves doublings ln2Low ln2High tera up down
 is-log-insulation =
     record {
-      at-least = record { left = lit< tt; right = lit< tt; across = lit≤ tt };
-      at-most = record { left = lit< tt; right = lit< tt; across = lit≤ tt };
+      at-least = closed≤ tt;
+      at-most = closed≤ tt;
     }
 
 frequency : In 1000 6500 5000
@@ -105,13 +117,22 @@ frequency = record { least = lit≤ tt; most = lit≤ tt }
 
 -- R', Rs and RA
 
-conductor : In 36500000000 407000000000000 1556758000000
+abbrev rc : ℕ
+rc = 1556758000000
+
+abbrev rs : ℕ
+rs = 11600000000000
+
+abbrev ra : ℕ
+ra = 2893750000000
+
+conductor : In leastConductorResistance mostResistance rc
 conductor = record { least = lit≤ tt; most = lit≤ tt }
 
-sheath : In 7300000000 407000000000000 11600000000000
+sheath : In leastSheathResistance mostResistance rs
 sheath = record { least = lit≤ tt; most = lit≤ tt }
 
-armour : In 7300000000 407000000000000 2893750000000
+armour : In leastSheathResistance mostResistance ra
 armour = record { least = lit≤ tt; most = lit≤ tt }
 
 skin : In 120 1000 1000
@@ -123,55 +144,55 @@ proximity = record { least = lit≤ tt; most = lit≤ tt }
 -- R, X, S, X-, W and the S of arrangement 3
 
 abbrev r : ℕ
-r = acResistance 1556758000000 (skinFactor 5000 1000 1556758000000) (proximityFactor (spacingRatio 1450 4200) (skinFactor 5000 800 1556758000000))
+r = acResistance rc (skinFactor 5000 1000 rc) (proximityFactor (spacingRatio 1450 4200) (skinFactor 5000 800 rc))
 
 abbrev r* : Fraction
-r* = acResistance* 1556758000000 (skinFactor* π 5000 1000 1556758000000) (proximityFactor* (spacingRatio* 1450 4200) (skinFactor* π 5000 800 1556758000000))
+r* = acResistance* rc (skinFactor* π 5000 1000 rc) (proximityFactor* (spacingRatio* 1450 4200) (skinFactor* π 5000 800 rc))
 
 r-close : Within 1000 (whole 0) r* (whole r)
 unfolding skinRatio skinReactance piHigh tera up
 r-close = resistance-close is-pi frequency skin proximity conductor (lit≤ tt) (lit≤ tt) (lit< tt) (lit≤ tt)
 
-abbrev x : ℕ
-x = sheathReactance (reactance 5000) (spacingLogHigh 5 4200 4000)
+abbrev X : ℕ
+X = sheathReactance (reactance 5000) (spacingLogHigh 5 4200 4000)
 
-abbrev x* : Fraction
-x* = sheathReactance* (reactance* π 5000) (spacingLog* 5 log-spacing ln2)
+abbrev X* : Fraction
+X* = sheathReactance* (reactance* π 5000) (spacingLog* 5 log-spacing ln2)
 
-x-close : Within 200 (whole 0) x* (whole x)
-x-close = sheathReactance-close 5 is-pi is-ln2 frequency is-log-spacing (lit< tt) (lit≤ tt) (lit< tt)
+X-close : Within 200 (whole 0) X* (whole X)
+X-close = sheathReactance-close 5 is-pi is-ln2 frequency is-log-spacing (lit< tt) (lit≤ tt) (lit< tt)
 
-x-least : 87000000000 ≤ x
-x-least = sheathReactance-least (reactance-range frequency .least) (spacingLogHigh-least 5 (lit< tt) (lit≤ tt))
+X-least : leastSheathReactance ≤ X
+X-least = sheathReactance-least (reactance-range frequency .least) (spacingLogHigh-least 5 (lit< tt) (lit≤ tt))
 
-circulating : Within 9800 (whole 408) (circulatingLoss* x* 11600000000000) (whole (circulatingLoss x 11600000000000))
-circulating = circulating-close x-least sheath x-close
+circulating : Within 9800 (whole 408) (circulatingLoss* X* rs) (whole (circulatingLoss X rs))
+circulating = circulating-close X-least sheath X-close
 
 eddies :
-    Within 13080 (whole 1248) (eddyLoss* 1 (reactance* π 5000) 11600000000000 4000 4200) (whole (eddyLoss 1 (reactance 5000) 11600000000000 4000 4200))
+    Within 13080 (whole 1248) (eddyLoss* 1 (reactance* π 5000) rs 4000 4200) (whole (eddyLoss 1 (reactance 5000) rs 4000 4200))
 unfolding reactance piHigh up
 eddies = eddy-close is-pi frequency sheath (lit≤ tt) (lit≤ tt) (lit< tt) (lit≤ tt)
 
-s-close : Within 9800 (whole 613) (slLoss* x* 11600000000000) (whole (slLoss x 11600000000000))
-s-close = sl-close x-least sheath x-close
+s-close : Within 9800 (whole 613) (slLoss* X* rs) (whole (slLoss X rs))
+s-close = sl-close X-least sheath X-close
 
-abbrev x- : ℕ
-x- = sheathReactanceLow (reactanceLow 5000) (spacingLogLow 5 4200 4000)
+abbrev X- : ℕ
+X- = sheathReactanceLow (reactanceLow 5000) (spacingLogLow 5 4200 4000)
 
-x-low : Within 6000 (whole 1) (whole x-) x*
-x-low =
+X-low : Within 6000 (whole 1) (whole X-) X*
+X-low =
     within-weaken (lit≤ tt) (≤F-refl (whole 1) (lit< tt))
     (sheathReactanceLow-close 5 is-pi is-ln2 frequency is-log-spacing (lit< tt) (lit≤ tt) (lit< tt))
 
 abbrev w : ℕ
-w = armourLoss 2893750000000 (reactance 5000) 2500 11000 x- 11600000000000
+w = armourLoss ra (reactance 5000) 2500 11000 X- rs
 
 abbrev w* : Fraction
-w* = armourLoss* 2893750000000 (reactance* π 5000) 2500 11000 x* 11600000000000
+w* = armourLoss* ra (reactance* π 5000) 2500 11000 X* rs
 
 w-close : Within 22694 (whole 1005) w* (whole w)
 w-close =
-    armour-close 2500 is-pi frequency armour (lit< tt) (lit≤ tt) (sheathReactanceLow-least 5 (lit≤ tt) (lit< tt) (lit≤ tt)) sheath x-low
+    armour-close 2500 is-pi frequency armour (lit< tt) (lit≤ tt) (sheathReactanceLow-least 5 (lit≤ tt) (lit< tt) (lit≤ tt)) sheath X-low
 
 -- dd and E
 
@@ -187,40 +208,44 @@ dd-close =
     (loss-close 350 19000 1000 is-pi frequency is-log-insulation (lit< tt) (lit≤ tt) (lit< tt))
 
 abbrev e : ℕ
-e = unitRise 3 r (slLoss x 11600000000000) w 350000 40000 60000 450000
+e = unitRise 3 r (slLoss X rs) w 350000 40000 60000 450000
 
 abbrev e* : Fraction
-e* = unitRise* 3 r* (slLoss* x* 11600000000000) w* 350000 40000 60000 450000
+e* = unitRise* 3 r* (slLoss* X* rs) w* 350000 40000 60000 450000
 
-less≤more : {n m : ℕ} → n ≤ m → whole n ≤F whole m
-less≤more n≤ = record { left = lit< tt; right = lit< tt; across = mul-le-mul-right 1 n≤ }
-
-r-least : 36500000000 ≤ r
-unfolding acResistance skinFactor factor skinRatioSquared skinRatio skinReactance proximityFactor proximityG proximityH spacingRatio piHigh tera up
+r-least : leastConductorResistance ≤ r
+unfolding acResistance skinFactor factor skinRatioSquared skinRatio skinReactance proximityFactor proximityG
+    proximityH spacingRatio piHigh tera up
 r-least = lit≤ tt
 
 e-close : Within 160000 (whole 0) e* (whole e)
 e-close =
     unitRise-close
-    (within-weaken (lit≤ tt) (less≤more (lit≤ tt)) r-close)
-    (within-weaken (lit≤ tt) (less≤more (lit≤ tt)) s-close)
-    (within-weaken (lit≤ tt) (less≤more (lit≤ tt)) w-close)
+    (within-weaken (lit≤ tt) (whole-mono (lit≤ tt)) r-close)
+    (within-weaken (lit≤ tt) (whole-mono (lit≤ tt)) s-close)
+    (within-weaken (lit≤ tt) (whole-mono (lit≤ tt)) w-close)
     r-least 3 350000 40000 60000 450000 (lit< tt) (lit≤ tt) (lit≤ tt)
 
 dd-share : 10 * dd ≤ 9 * 70000000000
-unfolding dielectricRise dielectricResistance dielectricLoss reactance logLow thirteenTerms series firstPower doubled octaves doublings ln2Low piHigh tera up down
+unfolding dielectricRise dielectricResistance dielectricLoss reactance logLow thirteenTerms series firstPower
+    doubled octaves doublings ln2Low piHigh tera up down
 dd-share = lit≤ tt
 
 carries : IsRating (70000000000 - dd) e 457106
-unfolding unitRise acResistance skinFactor factor skinRatioSquared skinRatio skinReactance proximityFactor proximityG proximityH spacingRatio slLoss threeHalves circulatingLoss bondRatioSquared bondRatio sheathReactance sheathReactanceLow spacingLogHigh spacingLogLow armourLoss screenedLoss screeningRatioSquared unscreenedLoss armourResistance armourRatioSquared armourRatio dielectricRise dielectricResistance dielectricLoss reactance reactanceLow logLow logHigh thirteenTerms series firstPower doubled octaves doublings ln2Low ln2High piLow piHigh tera up down
+unfolding unitRise acResistance skinFactor factor skinRatioSquared skinRatio skinReactance proximityFactor
+    proximityG proximityH spacingRatio slLoss threeHalves circulatingLoss bondRatioSquared bondRatio sheathReactance
+    sheathReactanceLow spacingLogHigh spacingLogLow armourLoss screenedLoss screeningRatioSquared unscreenedLoss
+    reducedArmourResistance armourRatioSquared armourRatio dielectricRise dielectricResistance dielectricLoss
+    reactance reactanceLow logLow logHigh thirteenTerms series firstPower doubled octaves doublings ln2Low ln2High
+    piLow piHigh tera up down
 carries = record { carried = lit≤ tt; no-more = lit< tt }
 
 -- The permitted rise is 70 K.
-rated : Rated e* dd* e dd (70000000000 - dd) 70000000000 457106
+rated : Stage10 e* dd* e dd (70000000000 - dd) 70000000000 457106
 rated =
     record {
       e-close = e-close;
-      dd-close = within-weaken (lit≤ tt) (less≤more (lit≤ tt)) dd-close;
+      dd-close = within-weaken (lit≤ tt) (whole-mono (lit≤ tt)) dd-close;
       left = omega (arith, dd-share);
       shares = dd-share;
       warm = lit≤ tt;

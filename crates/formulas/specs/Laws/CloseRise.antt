@@ -1,7 +1,7 @@
 -- Stage 10 from bounds on E and dd alone: the exact rise at the rating is at most the permitted rise, and at 2 mA more it is above.
 -- An arrangement adds only how close its own R, S, W and dd are. Assumes nothing.
 use mathlib.Core.Path.{_≡_, sym, _∙_, ap}
-use Prim.Native.Nat.{ℕ, _+_, _-_, _*_, _^_, _≤_, _<_}
+use Prim.Native.Nat.{ℕ, _+_, _*_, _^_, _≤_, _<_}
 use native.Mathlib.Nat.{
   le-refl,
   le-trans,
@@ -19,13 +19,15 @@ use native.Mathlib.Nat.{
 }
 use native.Mathlib.Omega.{arith}
 use lib.Dec.{lit<}
-use Rattle.exact.specs.Fraction.{Fraction, _over_, whole, _+F_, _*F_, reciprocal, square, _≤F_, _<F_, ≤F-refl, ≤F-trans, +F-mono, *F-mono}
+use Rattle.exact.specs.Fraction.{Fraction, _over_, whole, _+F_, _*F_, reciprocal, square, _≤F_, _<F_}
+use Rattle.exact.specs.Laws.Fraction.{≤F-refl, ≤F-trans, +F-mono, *F-mono}
 use Rattle.exact.specs.Error.{parts, Within}
+use Rattle.exact.specs.Trillion.{trillion}
 use Rattle.formulas.specs.Rating.{rise*}
 use Rattle.formulas.specs.Laws.Current.{IsRating}
 
 -- E and dd with their exact values, N and the permitted rise P, and the rating i that refusals 10 and 11 let pass
-pub record Rated (e* dd* : Fraction) (e dd n p i : ℕ) : Type 0 where
+pub record Stage10 (e* dd* : Fraction) (e dd n p i : ℕ) : Type 0 where
   pub e-close : Within 160000 (whole 0) e* (whole e)
   pub dd-close : Within 2500 (whole 2) dd* (whole dd)
   pub left : n + dd ≡ p
@@ -34,7 +36,7 @@ pub record Rated (e* dd* : Fraction) (e dd n p i : ℕ) : Type 0 where
   pub rating : IsRating n e i
   pub most : i ≤ 5000000
 
-module _ {e* dd* : Fraction} {e dd n p i : ℕ} (r : Rated e* dd* e dd n p i) where
+module _ {e* dd* : Fraction} {e dd n p i : ℕ} (r : Stage10 e* dd* e dd n p i) where
   pub rise-safe : rise* (whole i) e* dd* ≤F whole p
   unfolding rise* _*F_ _+F_ reciprocal
   rise-safe =
@@ -46,13 +48,13 @@ module _ {e* dd* : Fraction} {e dd n p i : ℕ} (r : Rated e* dd* e dd n p i) wh
 
 -- What a bound says of the lower value: x is at least y less its excess.
 
-lower-relative : {k y : ℕ} {x : Fraction} → Within k (whole 0) x (whole y) → 1000000000000 * (y * x .den) ≤ 1000000000000 * x .num + k * (y * x .den)
+lower-relative : {k y : ℕ} {x : Fraction} → Within k (whole 0) x (whole y) → trillion * (y * x .den) ≤ trillion * x .num + k * (y * x .den)
 unfolding parts _+F_ _*F_
 lower-relative p = omega (arith, p .close .across)
 
 lower-absolute :
     {k y : ℕ} {x : Fraction} → Within k (whole 2) x (whole y) →
-    1000000000000 * (y * x .den) ≤ 1000000000000 * x .num + k * (y * x .den) + 2000000000000 * x .den
+    trillion * (y * x .den) ≤ trillion * x .num + k * (y * x .den) + 2000000000000 * x .den
 unfolding parts _+F_ _*F_
 lower-absolute p = omega (arith, p .close .across)
 
@@ -82,11 +84,13 @@ step m dd n u n>0 m≥ dd≤ n≥ =
 joined : (α β γ δ μ ν ξ η : ℕ) → μ ≤ ξ + ν → β ≤ η + γ + δ → α + γ + δ + ν < μ → α + β < ξ + η
 joined α β γ δ μ ν ξ η e-less dd-less step< = omega arith
 
-e-below : (m en ed dd e : ℕ) → 1000000000000 * (e * ed) ≤ 1000000000000 * en + 160000 * (e * ed) → 10 ^ 12 * (m * e * (ed * dd)) ≤ 10 ^ 12 * (m * en * dd) + 160000 * (m * e * (ed * dd))
+e-below :
+    (m en ed dd e : ℕ) → trillion * (e * ed) ≤ trillion * en + 160000 * (e * ed) →
+    10 ^ 12 * (m * e * (ed * dd)) ≤ 10 ^ 12 * (m * en * dd) + 160000 * (m * e * (ed * dd))
 e-below m en ed dd e h = omega (arith, mul-le-mul-right (m * dd) h)
 
 dd-below :
-    (dn den ed dd q : ℕ) → 1000000000000 * (dd * den) ≤ 1000000000000 * dn + 2500 * (dd * den) + 2000000000000 * den →
+    (dn den ed dd q : ℕ) → trillion * (dd * den) ≤ trillion * dn + 2500 * (dd * den) + 2000000000000 * den →
     10 ^ 25 * (dd * q * (ed * den)) ≤ 10 ^ 25 * (dn * (q * ed)) + 2500 * (10 ^ 13 * (dd * q * (ed * den))) + 2 * 10 ^ 25 * q * (ed * den)
 dd-below dn den ed dd q h = omega (arith, mul-le-mul-right (10 ^ 13 * (q * ed)) h)
 
@@ -106,7 +110,7 @@ crossed m q en ed dn den n dd p sum h =
     in
     lt-of-mul-lt-mul-left (10 ^ 12) (omega arith)
 
-module _ {e* dd* : Fraction} {e dd n p i : ℕ} (r : Rated e* dd* e dd n p i) where
+module _ {e* dd* : Fraction} {e dd n p i : ℕ} (r : Stage10 e* dd* e dd n p i) where
   dd-most : dd ≤ 9 * n
   dd-most = omega (arith, r .left, r .shares)
 

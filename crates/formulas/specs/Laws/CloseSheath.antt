@@ -4,11 +4,12 @@ use Prim.Native.Nat.{ℕ, _+_, _*_, _≤_, _<_}
 use native.Mathlib.Nat.{mul-pos, mul-le-mul-right, le-refl}
 use native.Mathlib.Omega.{arith}
 use lib.Dec.{lit<, lit≤}
-use Rattle.exact.specs.Rounding.{up, down, up-least-below}
-use Rattle.exact.specs.Fraction.{Fraction, _over_, whole, _+F_, _*F_, reciprocal, _/F_, square, _≤F_, ≤F-refl}
-use Rattle.exact.specs.Error.{
-  parts,
-  Within,
+use Rattle.exact.specs.Rounding.{up, down}
+use Rattle.exact.specs.Laws.Rounding.{up-least-below}
+use Rattle.exact.specs.Fraction.{Fraction, _over_, whole, _+F_, _*F_, reciprocal, _/F_, square, _≤F_}
+use Rattle.exact.specs.Laws.Fraction.{closed≤, ≤F-refl}
+use Rattle.exact.specs.Error.{parts, Within}
+use Rattle.exact.specs.Laws.Error.{
   within-weaken,
   within-trans,
   within-same,
@@ -16,10 +17,9 @@ use Rattle.exact.specs.Error.{
   within-times,
   within-relative-product,
   within-saturate,
-  within-up-after,
-  within-up-over,
-  within-round-over,
 }
+use Rattle.exact.specs.Laws.RoundingError.{within-up-after, within-up-over, within-round-over}
+use Rattle.exact.specs.Trillion.{trillion}
 use Rattle.formulas.specs.Constants.{tera}
 use Rattle.formulas.specs.Sheath.{
   bondRatio,
@@ -33,11 +33,12 @@ use Rattle.formulas.specs.Sheath.{
 }
 use Rattle.formulas.specs.Laws.Ranges.{In}
 use Rattle.formulas.specs.Laws.LogRange.{tera>0}
+use Rattle.formulas.specs.Bounds.{leastSheathResistance, mostResistance, leastSheathReactance}
 
 -- The steps that both kinds of loss share: a ratio over T, its square, and u/(1 + u).
 
 pub ratio-close :
-    (s : ℕ) {r x k : ℕ} {x* : Fraction} → 0 < k → 1000000000000 ≤ s * up (x * tera) k → Within r (whole 0) x* (whole x) →
+    (s : ℕ) {r x k : ℕ} {x* : Fraction} → 0 < k → trillion ≤ s * up (x * tera) k → Within r (whole 0) x* (whole x) →
     Within (r + s) (whole 0) (x* /F whole k) (up (x * tera) k over tera)
 unfolding _*F_ reciprocal
 ratio-close s {x = x} {k} {x*} k>0 large p =
@@ -80,16 +81,16 @@ saturate-close {r} {u} {x} p =
 
 -- v, v2 and S in the arrangements 1, 2 and 5.
 
-pub bondRatio-least : {x rs : ℕ} → 87000000000 ≤ x → In 7300000000 407000000000000 rs → 213000000 ≤ bondRatio x rs
+pub bondRatio-least : {X rs : ℕ} → leastSheathReactance ≤ X → In leastSheathResistance mostResistance rs → 213000000 ≤ bondRatio X rs
 unfolding bondRatio tera
-bondRatio-least x≥ rs-range = up-least-below _ _ (omega (arith, rs-range .least)) (omega (arith, rs-range .most))
+bondRatio-least X≥ rs-range = up-least-below _ _ (omega (arith, rs-range .least)) (omega (arith, rs-range .most))
 
 pub bondRatio-close :
-    {x rs : ℕ} {x* : Fraction} → 87000000000 ≤ x → In 7300000000 407000000000000 rs → Within 200 (whole 0) x* (whole x) →
-    Within 4900 (whole 0) (bondRatio* x* rs) (bondRatio x rs over tera)
+    {X rs : ℕ} {X* : Fraction} → leastSheathReactance ≤ X → In leastSheathResistance mostResistance rs → Within 200 (whole 0) X* (whole X) →
+    Within 4900 (whole 0) (bondRatio* X* rs) (bondRatio X rs over tera)
 unfolding bondRatio bondRatio*
-bondRatio-close x≥ rs-range p =
-    ratio-close 4700 (omega (arith, rs-range .least)) (omega (arith, bondRatio-least x≥ rs-range)) p
+bondRatio-close X≥ rs-range p =
+    ratio-close 4700 (omega (arith, rs-range .least)) (omega (arith, bondRatio-least X≥ rs-range)) p
 
 -- v2 is not below v²/T, and less than 1 above it: proved from the definition like `sheathReactanceLow-rounds`
 bondRatioSquared-above : (v : ℕ) → v * v ≤ bondRatioSquared v * tera
@@ -115,23 +116,24 @@ bondRatioSquared-rounds v =
     }
 
 pub bondRatioSquared-close :
-    {x rs : ℕ} {x* : Fraction} → 87000000000 ≤ x → In 7300000000 407000000000000 rs → Within 200 (whole 0) x* (whole x) →
-    Within 9800 (1 over tera) (square (bondRatio* x* rs)) (bondRatioSquared (bondRatio x rs) over tera)
-bondRatioSquared-close {x} {rs} x≥ rs-range p =
-    let v-close = bondRatio-close x≥ rs-range p in
-    within-weaken (lit≤ tt) (zero-and tera>0) (within-trans (within-relative-product v-close v-close) (bondRatioSquared-rounds (bondRatio x rs)))
+    {X rs : ℕ} {X* : Fraction} → leastSheathReactance ≤ X → In leastSheathResistance mostResistance rs → Within 200 (whole 0) X* (whole X) →
+    Within 9800 (1 over tera) (square (bondRatio* X* rs)) (bondRatioSquared (bondRatio X rs) over tera)
+bondRatioSquared-close {X} {rs} X≥ rs-range p =
+    let v-close = bondRatio-close X≥ rs-range p in
+    within-weaken (lit≤ tt) (zero-and tera>0)
+    (within-trans (within-relative-product v-close v-close) (bondRatioSquared-rounds (bondRatio X rs)))
 
 -- 1/T of the largest Rs, and one rounding
-unit-of-most : (1 over tera) *F whole 407000000000000 +F whole 1 ≤F whole 408
+unit-of-most : (1 over tera) *F whole mostResistance +F whole 1 ≤F whole 408
 unfolding _+F_ _*F_ tera
-unit-of-most = record { left = lit< tt; right = lit< tt; across = lit≤ tt }
+unit-of-most = closed≤ tt
 
 loss-close :
-    {r v2 rs : ℕ} {u : Fraction} → rs ≤ 407000000000000 → Within r (1 over tera) u (v2 over tera) →
+    {r v2 rs : ℕ} {u : Fraction} → rs ≤ mostResistance → Within r (1 over tera) u (v2 over tera) →
     Within r (whole 408) (whole rs *F u /F (whole 1 +F u)) (whole (up (rs * v2) (tera + v2)))
 unfolding _*F_
 loss-close {r} {v2} {rs} rs≤ p =
-    let at-most : whole rs ≤F whole 407000000000000 = record { left = lit< tt; right = lit< tt; across = omega arith } in
+    let at-most : whole rs ≤F whole mostResistance = record { left = lit< tt; right = lit< tt; across = omega arith } in
     let times-rs = within-times at-most (saturate-close p) in
     within-weaken (le-refl r) unit-of-most
     (within-up-after (omega (arith, tera>0))
@@ -141,21 +143,21 @@ loss-close {r} {v2} {rs} rs≤ p =
     times-rs))
 
 pub circulating-close :
-    {x rs : ℕ} {x* : Fraction} → 87000000000 ≤ x → In 7300000000 407000000000000 rs → Within 200 (whole 0) x* (whole x) →
-    Within 9800 (whole 408) (circulatingLoss* x* rs) (whole (circulatingLoss x rs))
+    {X rs : ℕ} {X* : Fraction} → leastSheathReactance ≤ X → In leastSheathResistance mostResistance rs → Within 200 (whole 0) X* (whole X) →
+    Within 9800 (whole 408) (circulatingLoss* X* rs) (whole (circulatingLoss X rs))
 unfolding circulatingLoss circulatingLoss*
-circulating-close x≥ rs-range p = loss-close (rs-range .most) (bondRatioSquared-close x≥ rs-range p)
+circulating-close X≥ rs-range p = loss-close (rs-range .most) (bondRatioSquared-close X≥ rs-range p)
 
 three-halves-of : whole 408 *F (3 over 2) +F whole 1 ≤F whole 613
 unfolding _+F_ _*F_
-three-halves-of = record { left = lit< tt; right = lit< tt; across = lit≤ tt }
+three-halves-of = closed≤ tt
 
 pub sl-close :
-    {x rs : ℕ} {x* : Fraction} → 87000000000 ≤ x → In 7300000000 407000000000000 rs → Within 200 (whole 0) x* (whole x) →
-    Within 9800 (whole 613) (slLoss* x* rs) (whole (slLoss x rs))
+    {X rs : ℕ} {X* : Fraction} → leastSheathReactance ≤ X → In leastSheathResistance mostResistance rs → Within 200 (whole 0) X* (whole X) →
+    Within 9800 (whole 613) (slLoss* X* rs) (whole (slLoss X rs))
 unfolding slLoss slLoss* threeHalves _*F_
-sl-close {x} {rs} {x*} x≥ rs-range p =
-    let more = within-times (≤F-refl (3 over 2) (lit< tt)) (circulating-close x≥ rs-range p) in
+sl-close {X} {rs} {X*} X≥ rs-range p =
+    let more = within-times (≤F-refl (3 over 2) (lit< tt)) (circulating-close X≥ rs-range p) in
     within-weaken (le-refl 9800) three-halves-of
     (within-up-after (lit< tt)
     (within-same

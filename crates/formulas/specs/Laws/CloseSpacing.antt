@@ -2,12 +2,15 @@
 -- ln 2, and X is within 200. Assumes nothing.
 use mathlib.Core.Bool.{Bool, true, false, cond}
 use Prim.Native.Nat.{ℕ, zero, suc, _+_, _*_, _≤_, _<_}
-use native.Mathlib.Nat.{mul-pos, mul-le-mul, mul-le-mul-right, le-refl, le-trans, le-add-right}
+use native.Mathlib.Nat.{mul-pos, mul-le-mul, le-refl, le-trans, le-add-right}
 use native.Mathlib.Omega.{arith}
 use lib.Dec.{eqb, lit<, lit≤}
-use Rattle.exact.specs.Rounding.{up-least-below}
-use Rattle.exact.specs.Fraction.{Fraction, _over_, whole, _+F_, _*F_, reciprocal, _/F_, _≤F_, ≃F-refl, ≤F-refl, ≤F-trans, +F-mono}
-use Rattle.exact.specs.Error.{parts, Within, within-weaken, within-sum, within-scale, within-relative-product, within-round, within-same}
+use Rattle.exact.specs.Laws.Rounding.{up-least-below}
+use Rattle.exact.specs.Fraction.{Fraction, _over_, whole, _+F_, _*F_, reciprocal, _/F_, _≤F_}
+use Rattle.exact.specs.Laws.Fraction.{closed≤, ≃F-refl, ≤F-refl, ≤F-trans}
+use Rattle.exact.specs.Error.{Within}
+use Rattle.exact.specs.Laws.Error.{within-weaken, within-sum, within-scale, within-relative-product, within-same}
+use Rattle.exact.specs.Laws.RoundingError.{within-round}
 use Rattle.formulas.specs.Constants.{tera, ln2Low, ln2High, ln2ThirdHigh, Between, IsPi, IsLn2}
 use Rattle.formulas.specs.Reactance.{reactance, reactance*}
 use Rattle.formulas.specs.Logarithm.{octaves, logLow, logHigh, IsLog}
@@ -17,24 +20,8 @@ use Rattle.formulas.specs.Laws.LogEndsGap.{log-gap}
 use Rattle.formulas.specs.Laws.Ranges.{In, reactance-range}
 use Rattle.formulas.specs.Laws.CloseReactance.{reactance-close}
 use Rattle.formulas.specs.Laws.LogRange.{tera>0}
-
--- what lies between two ends is close to the upper one when the ends are
-between-close :
-    (r low high den : ℕ) {x : Fraction} → 0 < den → high * 1000000000000 ≤ low * 1000000000000 + r * high →
-    Between low high den x → Within r (whole 0) x (high over den)
-unfolding parts _+F_ _*F_
-between-close r low high den den>0 near p =
-    let ends : high over den ≤F (low over den) +F (parts r *F (high over den) +F whole 0) =
-    record {
-      left = den>0;
-      right = mul-pos den>0 (mul-pos (mul-pos (lit< tt) den>0) (lit< tt));
-      across = omega (arith, mul-le-mul-right (den * den) near);
-    }
-    in
-    record {
-      below = p .at-most;
-      close = ≤F-trans ends (+F-mono (p .at-least) (≤F-refl _ (mul-pos (mul-pos (lit< tt) den>0) (lit< tt))));
-    }
+use Rattle.formulas.specs.Bounds.{leastReactance, leastSpacingLog, leastSheathReactance}
+use Rattle.formulas.specs.Laws.Between.{between-below}
 
 -- 2s/d is at least 2, so its logarithm has an octave
 pub octaves-least : (a b : ℕ) → 0 < b → 2 * b ≤ a → 1 ≤ octaves a b
@@ -44,21 +31,21 @@ octaves-least a b b>0 h = go (octaves a b) (octaves-largest a b b>0 (omega arith
     go zero none = omega (arith, none .above)
     go (suc k) some = omega arith
 
-logHigh-least : (a b : ℕ) → 0 < b → 2 * b ≤ a → 693147180560 ≤ logHigh a b
+logHigh-octave : (a b : ℕ) → 0 < b → 2 * b ≤ a → leastSpacingLog ≤ logHigh a b
 unfolding logHigh ln2High
-logHigh-least a b b>0 h = omega (arith, octaves-least a b b>0 h)
+logHigh-octave a b b>0 h = omega (arith, octaves-least a b b>0 h)
 
-pub spacingLogHigh-least : (arrangement : ℕ) {s d : ℕ} → 0 < d → d ≤ s → 693147180560 ≤ spacingLogHigh arrangement s d
+pub spacingLogHigh-least : (arrangement : ℕ) {s d : ℕ} → 0 < d → d ≤ s → leastSpacingLog ≤ spacingLogHigh arrangement s d
 unfolding spacingLogHigh
 spacingLogHigh-least arrangement {s} {d} d>0 d≤s =
-    le-trans (logHigh-least (2 * s) d d>0 (omega arith)) (le-add-right (logHigh (2 * s) d) _)
+    le-trans (logHigh-octave (2 * s) d d>0 (omega arith)) (le-add-right (logHigh (2 * s) d) _)
 
 log-close :
     {s d : ℕ} {log : Fraction} → 0 < d → d ≤ s → 2 * s < 32768 * d → IsLog (2 * s) d log →
     Within 145 (whole 0) log (logHigh (2 * s) d over tera)
 log-close {s} {d} d>0 d≤s <d p =
-    between-close 145 (logLow (2 * s) d) (logHigh (2 * s) d) tera tera>0
-    (omega (arith, logHigh-least (2 * s) d d>0 (omega arith), log-gap (2 * s) d d>0 (omega arith) <d))
+    between-below 145 (logLow (2 * s) d) (logHigh (2 * s) d) tera tera>0
+    (omega (arith, logHigh-octave (2 * s) d d>0 (omega arith), log-gap (2 * s) d d>0 (omega arith) <d))
     p
 
 -- the end of a third of ln 2 is rounded up: three of it are 1 more than the end of ln 2
@@ -71,7 +58,7 @@ third-close {ln2} p =
       at-most = ≤F-trans (p .at-most) (record { left = tera>0; right = tera>0; across = omega arith });
     }
     in
-    let scaled = within-scale (1 over 3) (lit< tt) (between-close 145 693147180559 693147180561 tera tera>0 (lit≤ tt) wide) in
+    let scaled = within-scale (1 over 3) (lit< tt) (between-below 145 693147180559 693147180561 tera tera>0 (lit≤ tt) wide) in
     within-same
     (record { left = scaled .below .left; right = mul-pos (p .at-most .left) (lit< tt); across = omega arith })
     (record { left = scaled .below .right; right = tera>0; across = omega arith })
@@ -79,7 +66,7 @@ third-close {ln2} p =
 
 pub zero-and-zero : whole 0 +F whole 0 ≤F whole 0
 unfolding _+F_
-zero-and-zero = record { left = lit< tt; right = lit< tt; across = lit≤ tt }
+zero-and-zero = closed≤ tt
 
 with-third :
     (is-two : Bool) {high third : ℕ} {log x : Fraction} → Within 145 (whole 0) log (high over tera) →
@@ -102,12 +89,12 @@ spacingLog-close arrangement two p d>0 d≤s <d =
     with-third (eqb arrangement 2) (log-close d>0 d≤s <d p) (third-close two)
 
 -- what stage 7 divides is not small
-pub sheathReactance-least : {b l : ℕ} → 125663706144 ≤ b → 693147180560 ≤ l → 87000000000 ≤ sheathReactance b l
+pub sheathReactance-least : {b l : ℕ} → leastReactance ≤ b → leastSpacingLog ≤ l → leastSheathReactance ≤ sheathReactance b l
 unfolding sheathReactance tera
 sheathReactance-least b≥ l≥ = up-least-below _ _ (lit< tt) (omega (arith, mul-le-mul b≥ l≥))
 
 product-close :
-    {r s b l : ℕ} {b* l* : Fraction} → 125663706144 ≤ b → 693147180560 ≤ l → Within r (whole 0) b* (whole b) →
+    {r s b l : ℕ} {b* l* : Fraction} → leastReactance ≤ b → leastSpacingLog ≤ l → Within r (whole 0) b* (whole b) →
     Within s (whole 0) l* (l over tera) →
     Within (r + s + 12) (whole 0) (sheathReactance* b* l*) (whole (sheathReactance b l))
 unfolding sheathReactance sheathReactance* _*F_

@@ -1,9 +1,11 @@
--- Stage 10's rating is what document 01 says it is: the largest I with I² E ≤ 10^13 N. Assumes nothing.
+-- Stage 10's rating is what docs/RATING.md says it is: the largest I with I² E ≤ 10^13 N. Assumes nothing.
 use Prim.Native.Nat.{ℕ, _+_, _*_, _^_, _≤_, _<_}
 use native.Mathlib.Nat.{le-trans, lt-of-lt-of-le, mul-le-mul-right}
 use native.Mathlib.Omega.{arith}
-use Rattle.exact.specs.Rounding.{down, down-below, down-close}
-use Rattle.exact.specs.Root.{root, root-is, IsRoot}
+use Rattle.exact.specs.Rounding.{down}
+use Rattle.exact.specs.Laws.Rounding.{down-below, down-close}
+use Rattle.exact.specs.Root.{root, IsRoot}
+use Rattle.exact.specs.Laws.Root.{root-is}
 use Rattle.formulas.specs.Rating.{rating}
 
 -- i is the largest current with i² E ≤ 10^13 N

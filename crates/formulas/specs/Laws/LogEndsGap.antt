@@ -5,14 +5,17 @@ use Prim.Native.Nat.{ℕ, zero, suc, _+_, _-_, _*_, _≤_, _<_}
 use native.Mathlib.Nat.{mul-le-mul-left, mul-le-mul-right, le-trans, add-le-add, le-refl}
 use native.Mathlib.Omega.{arith}
 use lib.Dec.{lit<, lit≤}
-use Rattle.exact.specs.Rounding.{up, down, up-least, down-close, up-le-suc-down}
+use Rattle.exact.specs.Rounding.{up, down}
+use Rattle.exact.specs.Laws.Rounding.{up-least, down-close, up-le-suc-down}
+use Rattle.exact.specs.Trillion.{trillion}
 use Rattle.formulas.specs.Constants.{tera, ln2Low, ln2High}
 use Rattle.formulas.specs.Logarithm.{doubled, series, firstPower, termCount, thirteenTerms, logLow, logHigh}
 use Rattle.formulas.specs.Laws.LogRange.{up-bounded, down-bounded, power-most, firstPower-most, octaves-most}
+use Rattle.formulas.specs.Bounds.{mostPower}
 
 -- a third, rounded up: what bounds the powers
 abbrev third : ℕ
-third = 333333333334
+third = mostPower
 
 third≤tera : third ≤ tera
 unfolding tera
@@ -20,14 +23,14 @@ third≤tera = lit≤ tt
 
 -- the next power, where the two factors differ by c and by e
 power-gap :
-    (c e g p q p′ q′ : ℕ) → third * (c + e) ≤ 1000000000000 * g → p′ ≤ third → q ≤ third → p′ ≤ p + c → q′ ≤ q + e →
+    (c e g p q p′ q′ : ℕ) → third * (c + e) ≤ trillion * g → p′ ≤ third → q ≤ third → p′ ≤ p + c → q′ ≤ q + e →
     up (p′ * q′) tera ≤ down (p * q) tera + (g + 1)
 unfolding tera
 power-gap c e g p q p′ q′ small p′≤ q≤ p-near q-near =
-    up-least (p′ * q′) (down (p * q) 1000000000000 + (g + 1)) (lit< tt)
+    up-least (p′ * q′) (down (p * q) trillion + (g + 1)) (lit< tt)
     (omega (
       arith,
-      down-close (p * q) {b = 1000000000000} (lit< tt),
+      down-close (p * q) {b = trillion} (lit< tt),
       mul-le-mul-left p′ q-near,
       mul-le-mul-right q p-near,
       mul-le-mul-right e p′≤,

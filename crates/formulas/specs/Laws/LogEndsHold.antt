@@ -6,12 +6,36 @@ use Prim.Native.Nat.{ℕ, zero, suc, _+_, _-_, _*_, _^_, _≤_, _<_}
 use native.Mathlib.Nat.{pow-zero, pow-suc, one-mul, add-comm, mul-pos, mul-le-mul, mul-le-mul-left, mul-le-mul-right, le-of-mul-le-mul-left}
 use native.Mathlib.Omega.{arith}
 use lib.Dec.{lit<}
-use Rattle.exact.specs.Rounding.{up, down, up-above, down-below}
-use Rattle.exact.specs.Fraction.{Fraction, whole, _+F_, _*F_, reciprocal, _≤F_, ≤F-refl, ≤F-trans, ≃F→≤F, ≃F-sym, +F-mono, *F-mono, *F-+F, whole-+F}
+use Rattle.exact.specs.Rounding.{up, down}
+use Rattle.exact.specs.Laws.Rounding.{up-above, down-below}
+use Rattle.exact.specs.Fraction.{Fraction, whole, _+F_, _*F_, reciprocal, _≤F_}
+use Rattle.exact.specs.Laws.Fraction.{≤F-refl, ≤F-trans, ≃F→≤F, ≃F-sym, +F-mono, *F-mono, *F-+F, whole-+F}
+use Rattle.exact.specs.Trillion.{trillion}
 use Rattle.formulas.specs.Constants.{tera}
-use Rattle.formulas.specs.Logarithm.{octaves, doubled, series, firstPower, termCount, thirteenTerms, zeta, artanhTerm, artanhSum, artanhRest}
+use Rattle.formulas.specs.Logarithm.{
+  octaves,
+  doubled,
+  series,
+  firstPower,
+  termCount,
+  thirteenTerms,
+  zeta,
+  artanhTerm,
+  artanhSum,
+  artanhRest,
+}
 use Rattle.formulas.specs.Laws.Octaves.{Largest, octaves-largest}
-use Rattle.formulas.specs.Laws.LogEndsSum.{termsFrom, odd-power, term-pos, sum-split, sum-terms, rest-covers, rest-pos, sum-mono, sum-rest}
+use Rattle.formulas.specs.Laws.LogEndsSum.{
+  termsFrom,
+  odd-power,
+  term-pos,
+  sum-split,
+  sum-terms,
+  rest-covers,
+  rest-pos,
+  sum-mono,
+  sum-rest,
+}
 use Rattle.formulas.specs.Laws.LogRange.{tera>0}
 
 -- The product of two powers over T, rounded either way.
@@ -105,7 +129,7 @@ module _ (x : Fraction) (d>0 : 0 < x .den) (thrice : 3 * x .num ≤ x .den) wher
   rest-small : whole tera *F artanhRest x termCount ≤F whole 1
   unfolding artanhRest artanhTerm _*F_ reciprocal tera
   rest-small =
-      let far : 1000000000000 * x .num ^ (2 * termCount + 1) ≤ x .den ^ (2 * termCount + 1) = omega (arith, thirds (2 * termCount + 1)) in
+      let far : trillion * x .num ^ (2 * termCount + 1) ≤ x .den ^ (2 * termCount + 1) = omega (arith, thirds (2 * termCount + 1)) in
       let near : 8 * x .den ^ 2 ≤ 9 * (x .den ^ 2 - x .num ^ 2) = omega (arith, thirds 2) in
       record {
         left = mul-pos (lit< tt) (rest-pos x n<d termCount);

@@ -7,7 +7,8 @@ use native.Mathlib.Numerals.{add-one}
 use native.Mathlib.Omega.{arith}
 use lib.Dec.{lit<}
 use lib.Pow.{pow-add}
-use Rattle.exact.specs.Fraction.{Fraction, _over_, whole, _+F_, _*F_, reciprocal, _≤F_, ≤F-refl, ≤F-trans, +F-mono, +F-comm, +F-assoc}
+use Rattle.exact.specs.Fraction.{Fraction, _over_, whole, _+F_, _*F_, reciprocal, _≤F_}
+use Rattle.exact.specs.Laws.Fraction.{≤F-refl, ≤F-trans, +F-mono, +F-comm, +F-assoc}
 use Rattle.formulas.specs.Logarithm.{artanhTerm, artanhSum, artanhRest}
 
 -- the sum of n exact terms from the j-th on

@@ -1,15 +1,18 @@
 -- How large stage 5's ends get: each is at most 18.4 T where a/b is below 2^15, and the lower one is at least 0.048 T where a/b is
 -- 1.05 or more, so that stage 9 does not divide by too little. Assumes nothing.
 use mathlib.Core.Path.{_≡_, refl, ap, _∙_}
-use Prim.Native.Nat.{ℕ, zero, suc, _+_, _-_, _*_, _^_, _≤_, _<_}
+use Prim.Native.Nat.{ℕ, zero, suc, _+_, _*_, _^_, _≤_, _<_}
 use native.Mathlib.Nat.{le-trans, le-add-right, one-mul, mul-le-mul, lt-of-mul-lt-mul-right, lt-of-le-of-lt, lt-of-not-le}
 use native.Mathlib.Omega.{arith}
 use lib.Dec.{lit<, lit≤}
 use lib.Pow.{pow-mono}
-use Rattle.exact.specs.Rounding.{up, down, up-least, down-most, down-most-above}
+use Rattle.exact.specs.Rounding.{up, down}
+use Rattle.exact.specs.Laws.Rounding.{up-least, down-most, down-most-above}
+use Rattle.exact.specs.Trillion.{trillion}
 use Rattle.formulas.specs.Constants.{tera, ln2Low, ln2High}
 use Rattle.formulas.specs.Logarithm.{octaves, doubled, series, firstPower, termCount, thirteenTerms, logLow, logHigh}
 use Rattle.formulas.specs.Laws.Octaves.{Largest, octaves-largest}
+use Rattle.formulas.specs.Bounds.{mostPower, mostTerms, mostLog, leastInsulationLog}
 
 pub tera>0 : 0 < tera
 unfolding tera
@@ -29,7 +32,7 @@ module _ {round : ℕ → ℕ → ℕ} (bounded : Bounded round) where
   -- the next power is not above the last one
   pub power-most : (p q m : ℕ) → q ≤ tera → p ≤ m → round (p * q) tera ≤ m
   unfolding tera
-  power-most p q m q≤ p≤ = bounded (p * q) m 1000000000000 (lit< tt) (mul-le-mul p≤ q≤)
+  power-most p q m q≤ p≤ = bounded (p * q) m trillion (lit< tt) (mul-le-mul p≤ q≤)
 
   pub term-most : (p j m : ℕ) → p ≤ m → round (2 * p) (2 * j + 1) ≤ 2 * m
   term-most p j m p≤ = bounded (2 * p) (2 * m) (2 * j + 1) (omega arith) (omega arith)
@@ -41,24 +44,28 @@ module _ {round : ℕ → ℕ → ℕ} (bounded : Bounded round) where
       omega (arith, term-most p j m p≤, series-most q terms (j + 1) (round (p * q) tera) m q≤ (power-most p q m q≤ p≤))
 
   -- ζ is at most a third
-  pub firstPower-most : (a b : ℕ) → 0 < b → b ≤ a → firstPower round a b ≤ 333333333334
+  pub firstPower-most : (a b : ℕ) → 0 < b → b ≤ a → firstPower round a b ≤ mostPower
   unfolding firstPower doubled tera
   firstPower-most a b b>0 b≤a =
       let k : Largest a b (octaves a b) = octaves-largest a b b>0 b≤a in
-      bounded _ 333333333334 (a + 2 ^ octaves a b * b) (omega arith) (omega arith)
+      bounded _ mostPower (a + 2 ^ octaves a b * b) (omega arith) (omega arith)
 
-  third≤tera : 333333333334 ≤ tera
+  third≤tera : mostPower ≤ tera
   unfolding tera
   third≤tera = lit≤ tt
 
-  pub thirteenTerms-most : (p : ℕ) → p ≤ 333333333334 → thirteenTerms round p ≤ 8666666666684
+  pub thirteenTerms-most : (p : ℕ) → p ≤ mostPower → thirteenTerms round p ≤ mostTerms
   unfolding thirteenTerms
   thirteenTerms-most p p≤ =
       le-trans
-      (series-most (round (p * p) tera) termCount 0 p 333333333334
-      (le-trans (power-most p p 333333333334 (le-trans p≤ third≤tera) p≤) third≤tera)
+      (series-most (round (p * p) tera) termCount 0 p mostPower
+      (le-trans (power-most p p mostPower (le-trans p≤ third≤tera) p≤) third≤tera)
       p≤)
       (lit≤ tt)
+
+  -- what an end adds to its octaves
+  pub terms-most : (a b : ℕ) → 0 < b → b ≤ a → thirteenTerms round (firstPower round a b) ≤ mostTerms
+  terms-most a b b>0 b≤a = thirteenTerms-most (firstPower round a b) (firstPower-most a b b>0 b≤a)
 
 pub octaves-most : (a b : ℕ) → 0 < b → b ≤ a → a < 32768 * b → octaves a b ≤ 14
 octaves-most a b b>0 b≤a a< =
@@ -66,23 +73,13 @@ octaves-most a b b>0 b≤a a< =
     let powers : 2 ^ octaves a b < 2 ^ 15 = lt-of-mul-lt-mul-right b (lt-of-le-of-lt (k .below) a<) in
     omega (arith, lt-of-not-le {n = 15} {m = octaves a b} (λ 15≤. omega (arith, pow-mono 15≤)))
 
-pub logHigh-most : (a b : ℕ) → 0 < b → b ≤ a → a < 32768 * b → logHigh a b ≤ 18370727194525
+pub logHigh-most : (a b : ℕ) → 0 < b → b ≤ a → a < 32768 * b → logHigh a b ≤ mostLog
 unfolding logHigh ln2High
-logHigh-most a b b>0 b≤a a< =
-    omega (
-      arith,
-      thirteenTerms-most up-bounded (firstPower up a b) (firstPower-most up-bounded a b b>0 b≤a),
-      octaves-most a b b>0 b≤a a<,
-    )
+logHigh-most a b b>0 b≤a a< = omega (arith, terms-most up-bounded a b b>0 b≤a, octaves-most a b b>0 b≤a a<)
 
-pub logLow-most : (a b : ℕ) → 0 < b → b ≤ a → a < 32768 * b → logLow a b ≤ 18370727194525
+pub logLow-most : (a b : ℕ) → 0 < b → b ≤ a → a < 32768 * b → logLow a b ≤ mostLog
 unfolding logLow ln2Low
-logLow-most a b b>0 b≤a a< =
-    omega (
-      arith,
-      thirteenTerms-most down-bounded (firstPower down a b) (firstPower-most down-bounded a b b>0 b≤a),
-      octaves-most a b b>0 b≤a a<,
-    )
+logLow-most a b b>0 b≤a a< = omega (arith, terms-most down-bounded a b b>0 b≤a, octaves-most a b b>0 b≤a a<)
 
 thirteenTerms-least : (p : ℕ) → 2 * p ≤ thirteenTerms down p
 unfolding thirteenTerms series
@@ -95,11 +92,11 @@ firstPower-least a b b>0 h none =
     let same : 2 ^ octaves a b * b ≡ b = ap (λ k. 2 ^ k * b) none ∙ one-mul b in
     down-most _ 24390243902 (omega arith) (omega arith)
 
-pub logLow-least : (a b : ℕ) → 0 < b → 21 * b ≤ 20 * a → 48780487804 ≤ logLow a b
+pub logLow-least : (a b : ℕ) → 0 < b → 21 * b ≤ 20 * a → leastInsulationLog ≤ logLow a b
 unfolding logLow ln2Low
 logLow-least a b b>0 h = go (octaves a b) refl
   where
-    go : (k : ℕ) → octaves a b ≡ k → 48780487804 ≤ thirteenTerms down (firstPower down a b) + 693147180559 * octaves a b
+    go : (k : ℕ) → octaves a b ≡ k → leastInsulationLog ≤ thirteenTerms down (firstPower down a b) + 693147180559 * octaves a b
     go zero none =
         omega (arith, firstPower-least a b b>0 h none, thirteenTerms-least (firstPower down a b))
     go (suc k) some = omega arith

@@ -1,4 +1,4 @@
--- Stage 5's k is what document 01 says it is: the largest with 2^k b ≤ a. Assumes nothing.
+-- Stage 5's k is what docs/RATING.md says it is: the largest with 2^k b ≤ a. Assumes nothing.
 use mathlib.Core.Path.{_≡_, refl, ap}
 use mathlib.Core.Bool.{Bool, true, false, cond}
 use Prim.Native.Nat.{ℕ, zero, suc, _*_, _^_, _≤_, _<_}

@@ -7,7 +7,9 @@ use native.Mathlib.Omega.{arith}
 use lib.Dec.{eqb, lit<, lit≤}
 use lib.IntN.{ℤ, pos, negℤ}
 use lib.Signed.{_≤ℤ_}
-use Rattle.exact.specs.Rounding.{up, down, up-least, up-least-below, down-most-above}
+use Rattle.exact.specs.Rounding.{up, down}
+use Rattle.exact.specs.Laws.Rounding.{up-least, up-least-below, down-most-above}
+use Rattle.exact.specs.Trillion.{trillion}
 use Rattle.formulas.specs.Constants.{tera, piLow, piHigh, ln2ThirdLow, ln2ThirdHigh}
 use Rattle.formulas.specs.Resistance.{temperatureFactor, resistance}
 use Rattle.formulas.specs.Reactance.{reactance, reactanceLow}
@@ -29,7 +31,7 @@ use Rattle.formulas.specs.Sheath.{
 use Rattle.formulas.specs.Armour.{
   armourRatio,
   armourRatioSquared,
-  armourResistance,
+  reducedArmourResistance,
   unscreenedLoss,
   screeningRatioSquared,
   screenedLoss,
@@ -38,6 +40,37 @@ use Rattle.formulas.specs.Dielectric.{dielectricResistance, dielectricRi
 use Rattle.formulas.specs.Rating.{unitRise}
 use Rattle.formulas.specs.Laws.Temperature.{FactorRange, temperatureFactor-range}
 use Rattle.formulas.specs.Laws.LogRange.{logHigh-most, logLow-most}
+use Rattle.formulas.specs.Bounds.{
+  leastConductorResistance,
+  leastSheathResistance,
+  mostResistance,
+  leastReactance,
+  mostReactance,
+  mostSkinReactance,
+  mostSkinRatioSquared,
+  mostSkinFactor,
+  mostProximityFactor,
+  mostAcResistance,
+  leastInsulationLog,
+  mostSpacingLog,
+  mostSheathReactance,
+  mostBondRatio,
+  mostBondRatioSquared,
+  mostEddyRatio,
+  mostEddyFactor,
+  mostEddySpacing,
+  mostEddyInner,
+  mostSheathLoss,
+  mostArmourRatio,
+  mostArmourRatioSquared,
+  mostArmourLoss,
+  mostDielectricLoss,
+  mostDielectricResistance,
+  mostDielectricRise,
+  leastUnitRise,
+  mostUnitRise,
+}
+use Rattle.formulas.specs.Refusals.{skinLimit}
 
 -- n is at least low and at most high
 pub record In (low high n : ℕ) : Type 0 where
@@ -52,7 +85,7 @@ resistance-range low high {α = α} θ field α≤ cold hot =
     let factor : FactorRange (temperatureFactor α θ) = temperatureFactor-range α θ α≤ cold hot in
     record { least = mul-le-mul (field .least) (factor .least); most = mul-le-mul (field .most) (factor .most) }
 
-pub reactance-range : {f : ℕ} → In 1000 6500 f → In 125663706144 816814089936 (reactance f)
+pub reactance-range : {f : ℕ} → In 1000 6500 f → In leastReactance mostReactance (reactance f)
 unfolding reactance piHigh
 reactance-range p = record { least = up-least-below _ _ (lit< tt) (omega arith); most = up-least _ _ (lit< tt) (omega arith) }
 
@@ -60,47 +93,47 @@ pub reactanceLow-most : {f : ℕ} → f ≤ 6500 → reactanceLow f ≤ 81681408
 unfolding reactanceLow piLow
 reactanceLow-most f≤ = down-most-above _ _ (lit< tt) (omega arith)
 
-pub skinReactance-most : {f k : ℕ} → f ≤ 6500 → k ≤ 1000 → skinReactance f k ≤ 1633628179872
+pub skinReactance-most : {f k : ℕ} → f ≤ 6500 → k ≤ 1000 → skinReactance f k ≤ mostSkinReactance
 unfolding skinReactance piHigh
 skinReactance-most {f} {k} f≤ k≤ = up-least _ _ (lit< tt) (omega (arith, mul-le-mul f≤ k≤))
 
-pub skinRatioSquared-most : {z : ℕ} → z ≤ 7840000000000 → skinRatioSquared z ≤ 61465600000000
+pub skinRatioSquared-most : {z : ℕ} → z ≤ skinLimit → skinRatioSquared z ≤ mostSkinRatioSquared
 unfolding skinRatioSquared tera
 skinRatioSquared-most z≤ = up-least _ _ (lit< tt) (omega (arith, mul-le-mul z≤ z≤))
 
-pub factor-most : {w : ℕ} → w ≤ 61465600000000 → factor w ≤ 254900000000
+pub factor-most : {w : ℕ} → w ≤ mostSkinRatioSquared → factor w ≤ mostSkinFactor
 unfolding factor tera
 factor-most w≤ = up-least _ _ (omega arith) (omega arith)
 
-pub spacingRatio-most : {dc s : ℕ} → 0 < s → dc ≤ s → spacingRatio dc s ≤ 1000000000000
+pub spacingRatio-most : {dc s : ℕ} → 0 < s → dc ≤ s → spacingRatio dc s ≤ trillion
 unfolding spacingRatio tera
 spacingRatio-most s>0 dc≤s = up-least _ _ (mul-pos s>0 s>0) (omega (arith, mul-le-mul dc≤s dc≤s))
 
-pub proximityH-most : {g : ℕ} → g ≤ 254900000000 → proximityH g ≤ 600000000000
+pub proximityH-most : {G : ℕ} → G ≤ mostSkinFactor → proximityH G ≤ 600000000000
 unfolding proximityH tera
-proximityH-most g≤ = up-least _ _ (omega arith) (omega arith)
+proximityH-most G≤ = up-least _ _ (omega arith) (omega arith)
 
-pub proximityG-most : {u g : ℕ} → u ≤ 1000000000000 → g ≤ 254900000000 → proximityG u g ≤ 80000000000
+pub proximityG-most : {u G : ℕ} → u ≤ trillion → G ≤ mostSkinFactor → proximityG u G ≤ 80000000000
 unfolding proximityG
-proximityG-most u≤ g≤ = up-least _ _ (lit< tt) (omega (arith, mul-le-mul u≤ g≤))
+proximityG-most u≤ G≤ = up-least _ _ (lit< tt) (omega (arith, mul-le-mul u≤ G≤))
 
-pub proximityFactor-most : {u g : ℕ} → u ≤ 1000000000000 → g ≤ 254900000000 → proximityFactor u g ≤ 680000000000
+pub proximityFactor-most : {u G : ℕ} → u ≤ trillion → G ≤ mostSkinFactor → proximityFactor u G ≤ mostProximityFactor
 unfolding proximityFactor tera
-proximityFactor-most {u} {g} u≤ g≤ =
-    let inner : proximityG u g + proximityH g ≤ 680000000000 = omega (arith, proximityG-most u≤ g≤, proximityH-most g≤) in
+proximityFactor-most {u} {G} u≤ G≤ =
+    let inner : proximityG u G + proximityH G ≤ mostProximityFactor = omega (arith, proximityG-most u≤ G≤, proximityH-most G≤) in
     up-least _ _ (lit< tt) (omega (arith, mul-le-mul u≤ inner))
 
 pub acResistance-range :
-    {r' ys yp : ℕ} → In 36500000000 407000000000000 r' → ys ≤ 254900000000 → yp ≤ 680000000000 →
-    In 36500000000 788000000000000 (acResistance r' ys yp)
+    {r' ys yp : ℕ} → In leastConductorResistance mostResistance r' → ys ≤ mostSkinFactor → yp ≤ mostProximityFactor →
+    In leastConductorResistance mostAcResistance (acResistance r' ys yp)
 unfolding acResistance tera
 acResistance-range {r'} {ys} {yp} r'-range ys≤ yp≤ =
     record {
-      least = up-least-below _ _ (lit< tt) (omega (arith, mul-le-mul-right 1000000000000 (r'-range .least)));
+      least = up-least-below _ _ (lit< tt) (omega (arith, mul-le-mul-right trillion (r'-range .least)));
       most = up-least _ _ (lit< tt) (omega (arith, mul-le-mul (r'-range .most) sum≤));
     }
   where
-    sum≤ : 1000000000000 + ys + yp ≤ 1934900000000
+    sum≤ : trillion + ys + yp ≤ 1934900000000
     sum≤ = omega arith
 
 -- a third of ln 2 or nothing
@@ -108,150 +141,154 @@ third-most : (is-two : Bool) (third : ℕ) → cond is-two third 0 ≤ third
 third-most true third = omega arith
 third-most false third = omega arith
 
-pub spacingLogHigh-most : (arrangement s d : ℕ) → 0 < d → d ≤ 2 * s → 2 * s < 32768 * d → spacingLogHigh arrangement s d ≤ 18601776254712
+pub spacingLogHigh-most : (arrangement s d : ℕ) → 0 < d → d ≤ 2 * s → 2 * s < 32768 * d → spacingLogHigh arrangement s d ≤ mostSpacingLog
 unfolding spacingLogHigh ln2ThirdHigh
 spacingLogHigh-most arrangement s d d>0 d≤ <d =
     omega (arith, logHigh-most (2 * s) d d>0 d≤ <d, third-most (eqb arrangement 2) 231049060187)
 
-pub spacingLogLow-most : (arrangement s d : ℕ) → 0 < d → d ≤ 2 * s → 2 * s < 32768 * d → spacingLogLow arrangement s d ≤ 18601776254712
+pub spacingLogLow-most : (arrangement s d : ℕ) → 0 < d → d ≤ 2 * s → 2 * s < 32768 * d → spacingLogLow arrangement s d ≤ mostSpacingLog
 unfolding spacingLogLow ln2ThirdLow
 spacingLogLow-most arrangement s d d>0 d≤ <d =
     omega (arith, logLow-most (2 * s) d d>0 d≤ <d, third-most (eqb arrangement 2) 231049060186)
 
-pub sheathReactance-most : {b l : ℕ} → b ≤ 816814089936 → l ≤ 18601776254712 → sheathReactance b l ≤ 15200000000000
+pub sheathReactance-most : {b l : ℕ} → b ≤ mostReactance → l ≤ mostSpacingLog → sheathReactance b l ≤ mostSheathReactance
 unfolding sheathReactance tera
 sheathReactance-most b≤ l≤ = up-least _ _ (lit< tt) (omega (arith, mul-le-mul b≤ l≤))
 
-pub sheathReactanceLow-most : {b l : ℕ} → b ≤ 816814089936 → l ≤ 18601776254712 → sheathReactanceLow b l ≤ 15200000000000
+pub sheathReactanceLow-most : {b l : ℕ} → b ≤ mostReactance → l ≤ mostSpacingLog → sheathReactanceLow b l ≤ mostSheathReactance
 unfolding sheathReactanceLow tera up down
 sheathReactanceLow-most b≤ l≤ = omega (arith, mul-le-mul b≤ l≤)
 
 -- The sheath.
 
-pub bondRatio-most : {x rs : ℕ} → x ≤ 15200000000000 → 7300000000 ≤ rs → bondRatio x rs ≤ 2083000000000000
+pub bondRatio-most : {X rs : ℕ} → X ≤ mostSheathReactance → leastSheathResistance ≤ rs → bondRatio X rs ≤ mostBondRatio
 unfolding bondRatio tera
-bondRatio-most x≤ rs≥ = up-least _ _ (omega arith) (omega arith)
+bondRatio-most X≤ rs≥ = up-least _ _ (omega arith) (omega arith)
 
-pub bondRatioSquared-most : {v : ℕ} → v ≤ 2083000000000000 → bondRatioSquared v ≤ 4338889000000000000
+pub bondRatioSquared-most : {v : ℕ} → v ≤ mostBondRatio → bondRatioSquared v ≤ mostBondRatioSquared
 unfolding bondRatioSquared tera up down
 bondRatioSquared-most v≤ = omega (arith, mul-le-mul v≤ v≤)
 
-pub circulatingLoss-most : (x rs : ℕ) → circulatingLoss x rs ≤ rs
+pub circulatingLoss-most : (X rs : ℕ) → circulatingLoss X rs ≤ rs
 unfolding circulatingLoss tera
-circulatingLoss-most x rs = up-least _ _ (omega arith) (omega arith)
+circulatingLoss-most X rs = up-least _ _ (omega arith) (omega arith)
 
-pub slLoss-most : (x : ℕ) {rs : ℕ} → rs ≤ 407000000000000 → slLoss x rs ≤ 610500000000000
+pub slLoss-most : (X : ℕ) {rs : ℕ} → rs ≤ mostResistance → slLoss X rs ≤ mostSheathLoss
 unfolding slLoss threeHalves
-slLoss-most x {rs} rs≤ = up-least _ _ (lit< tt) (omega (arith, circulatingLoss-most x rs))
+slLoss-most X {rs} rs≤ = up-least _ _ (lit< tt) (omega (arith, circulatingLoss-most X rs))
 
-pub eddyRatio-most : (b : ℕ) {rs : ℕ} → 0 < rs → 5 * b ≤ rs → eddyRatio b rs ≤ 100000000000
+pub eddyRatio-most : (b : ℕ) {rs : ℕ} → 0 < rs → 5 * b ≤ rs → eddyRatio b rs ≤ mostEddyRatio
 unfolding eddyRatio tera
 eddyRatio-most b rs>0 b≤ = up-least _ _ (omega arith) (omega arith)
 
-pub eddyRatioSquared-most : {m : ℕ} → m ≤ 100000000000 → eddyRatioSquared m ≤ 10000000000
+pub eddyRatioSquared-most : {m : ℕ} → m ≤ mostEddyRatio → eddyRatioSquared m ≤ mostEddyFactor
 unfolding eddyRatioSquared tera
 eddyRatioSquared-most m≤ = up-least _ _ (lit< tt) (omega (arith, mul-le-mul m≤ m≤))
 
-pub eddyFactor-most : {m2 : ℕ} → m2 ≤ 10000000000 → eddyFactor m2 ≤ 10000000000
+-- e', from B and Rs
+pub eddyFactor-most :
+    (b : ℕ) {rs : ℕ} → 0 < rs → 5 * b ≤ rs → eddyFactor (eddyRatioSquared (eddyRatio b rs)) ≤ mostEddyFactor
 unfolding eddyFactor tera
-eddyFactor-most m2≤ = up-least _ _ (omega arith) (omega arith)
+eddyFactor-most b rs>0 b≤ =
+    up-least _ _ (omega arith) (omega (arith, eddyRatioSquared-most (eddyRatio-most b rs>0 b≤)))
 
-pub eddySpacing-most : {d s : ℕ} → 0 < s → d ≤ s → eddySpacing d s ≤ 250000000000
+pub eddySpacing-most : {d s : ℕ} → 0 < s → d ≤ s → eddySpacing d s ≤ mostEddySpacing
 unfolding eddySpacing tera
 eddySpacing-most s>0 d≤s = up-least _ _ (omega (arith, mul-pos s>0 s>0)) (omega (arith, mul-le-mul d≤s d≤s))
 
 -- the sheath's eddy loss of one core, the inner up(Rs e'/T)
-pub eddyInner-most : {rs e' : ℕ} → rs ≤ 407000000000000 → e' ≤ 10000000000 → up (rs * e') tera ≤ 4070000000000
+pub eddyInner-most : {rs e' : ℕ} → rs ≤ mostResistance → e' ≤ mostEddyFactor → up (rs * e') tera ≤ mostEddyInner
 unfolding tera
 eddyInner-most rs≤ e'≤ = up-least _ _ (lit< tt) (omega (arith, mul-le-mul rs≤ e'≤))
 
 pub eddyLoss-most :
-    {j rs d s : ℕ} (b : ℕ) → j ≤ 2 → 0 < rs → rs ≤ 407000000000000 → 5 * b ≤ rs → 0 < s → d ≤ s → eddyLoss j b rs d s ≤ 610500000000000
+    {j rs d s : ℕ} (b : ℕ) → j ≤ 2 → 0 < rs → rs ≤ mostResistance → 5 * b ≤ rs → 0 < s → d ≤ s → eddyLoss j b rs d s ≤ mostSheathLoss
 unfolding eddyLoss tera
 eddyLoss-most {j} {rs} {d} {s} b j≤ rs>0 rs≤ b≤ s>0 d≤s =
     let e' = eddyFactor (eddyRatioSquared (eddyRatio b rs)) in
-    let inner≤ : up (rs * e') 1000000000000 ≤ 4070000000000 =
-    eddyInner-most rs≤ (eddyFactor-most (eddyRatioSquared-most (eddyRatio-most b rs>0 b≤)))
+    let inner≤ : up (rs * e') trillion ≤ 4070000000000 =
+    eddyInner-most rs≤ (eddyFactor-most b rs>0 b≤)
     in
     let j3≤ : 3 * j ≤ 6 = omega arith in
-    let cores≤ : 3 * j * up (rs * e') 1000000000000 ≤ 6 * 4070000000000 = mul-le-mul j3≤ inner≤ in
+    let cores≤ : 3 * j * up (rs * e') trillion ≤ 6 * 4070000000000 = mul-le-mul j3≤ inner≤ in
     up-least _ _ (lit< tt) (le-trans (mul-le-mul cores≤ (eddySpacing-most s>0 d≤s)) (lit≤ tt))
 
 -- The armour.
 
-pub armourRatio-most : {ra b : ℕ} → ra ≤ 407000000000000 → 125663706144 ≤ b → armourRatio ra b ≤ 1795000000000000
+pub armourRatio-most : {ra b : ℕ} → ra ≤ mostResistance → leastReactance ≤ b → armourRatio ra b ≤ mostArmourRatio
 unfolding armourRatio
 armourRatio-most ra≤ b≥ = down-most-above _ _ (omega arith) (omega arith)
 
-pub armourRatioSquared-most : {y : ℕ} → y ≤ 1795000000000000 → armourRatioSquared y ≤ 3222025000000000000
+pub armourRatioSquared-most : {y : ℕ} → y ≤ mostArmourRatio → armourRatioSquared y ≤ mostArmourRatioSquared
 unfolding armourRatioSquared tera
 armourRatioSquared-most y≤ = down-most-above _ _ (lit< tt) (omega (arith, mul-le-mul y≤ y≤))
 
-pub armourResistance-most : (ra b : ℕ) → armourResistance ra b ≤ ra
-unfolding armourResistance tera
-armourResistance-most ra b = up-least _ _ (omega arith) (omega arith)
+pub reducedArmourResistance-most : (ra b : ℕ) → reducedArmourResistance ra b ≤ ra
+unfolding reducedArmourResistance tera
+reducedArmourResistance-most ra b = up-least _ _ (omega arith) (omega arith)
 
-pub armourSpacing-most : (c : ℕ) {dA : ℕ} → 0 < dA → 2 * c ≤ dA → up (4 * (c * c) * tera) (dA * dA) ≤ 1000000000000
+pub armourSpacing-most : (c : ℕ) {dA : ℕ} → 0 < dA → 2 * c ≤ dA → up (4 * (c * c) * tera) (dA * dA) ≤ trillion
 unfolding tera
 armourSpacing-most c dA>0 c≤ = up-least _ _ (mul-pos dA>0 dA>0) (omega (arith, mul-le-mul c≤ c≤))
 
-pub unscreenedLoss-most : {ra dA : ℕ} (b c : ℕ) → ra ≤ 407000000000000 → 0 < dA → 2 * c ≤ dA → unscreenedLoss ra b c dA ≤ 500610000000000
+pub unscreenedLoss-most : {ra dA : ℕ} (b c : ℕ) → ra ≤ mostResistance → 0 < dA → 2 * c ≤ dA → unscreenedLoss ra b c dA ≤ mostArmourLoss
 unfolding unscreenedLoss
 unscreenedLoss-most {ra} b c ra≤ dA>0 c≤ =
-    let r≤ : 123 * armourResistance ra b ≤ 50061000000000000 = omega (arith, armourResistance-most ra b) in
+    let r≤ : 123 * reducedArmourResistance ra b ≤ 50061000000000000 = omega (arith, reducedArmourResistance-most ra b) in
     up-least _ _ (lit< tt) (le-trans (mul-le-mul r≤ (armourSpacing-most c dA>0 c≤)) (lit≤ tt))
 
-pub screeningRatio-most : {x rs : ℕ} → x ≤ 15200000000000 → 7300000000 ≤ rs → down (x * tera) rs ≤ 2083000000000000
+pub screeningRatio-most : {X rs : ℕ} → X ≤ mostSheathReactance → leastSheathResistance ≤ rs → down (X * tera) rs ≤ mostBondRatio
 unfolding tera
-screeningRatio-most x≤ rs≥ = down-most-above _ _ (omega arith) (omega arith)
+screeningRatio-most X≤ rs≥ = down-most-above _ _ (omega arith) (omega arith)
 
 pub screeningRatioSquared-most :
-    {x rs : ℕ} → x ≤ 15200000000000 → 7300000000 ≤ rs → screeningRatioSquared x rs ≤ 4338889000000000000
+    {X rs : ℕ} → X ≤ mostSheathReactance → leastSheathResistance ≤ rs → screeningRatioSquared X rs ≤ mostBondRatioSquared
 unfolding screeningRatioSquared tera
-screeningRatioSquared-most x≤ rs≥ =
-    down-most-above _ _ (lit< tt) (omega (arith, mul-le-mul (screeningRatio-most x≤ rs≥) (screeningRatio-most x≤ rs≥)))
+screeningRatioSquared-most X≤ rs≥ =
+    down-most-above _ _ (lit< tt) (omega (arith, mul-le-mul (screeningRatio-most X≤ rs≥) (screeningRatio-most X≤ rs≥)))
 
-pub screening-most : (v2 : ℕ) → up (tera * tera) (tera + v2) ≤ 1000000000000
+pub screening-most : (v2 : ℕ) → up (tera * tera) (tera + v2) ≤ trillion
 unfolding tera
 screening-most v2 = up-least _ _ (omega arith) (omega arith)
 
-pub screenedLoss-most : {w : ℕ} (x rs : ℕ) → w ≤ 500610000000000 → screenedLoss w x rs ≤ 500610000000000
+pub screenedLoss-most : {w : ℕ} (X rs : ℕ) → w ≤ mostArmourLoss → screenedLoss w X rs ≤ mostArmourLoss
 unfolding screenedLoss tera
-screenedLoss-most x rs w≤ =
-    up-least _ _ (lit< tt) (mul-le-mul w≤ (screening-most (screeningRatioSquared x rs)))
+screenedLoss-most X rs w≤ =
+    up-least _ _ (lit< tt) (mul-le-mul w≤ (screening-most (screeningRatioSquared X rs)))
 
 -- The dielectric loss.
 
 pub dielectricLoss-most :
-    {k b l : ℕ} → k ≤ 720000000000000000 → b ≤ 816814089936 → 48780487804 ≤ l → up (k * b) (360 * l) ≤ 33500000000000000
+    {k b l : ℕ} → k ≤ 720000000000000000 → b ≤ mostReactance → leastInsulationLog ≤ l → up (k * b) (360 * l) ≤ mostDielectricLoss
 dielectricLoss-most k≤ b≤ l≥ = up-least _ _ (omega arith) (omega (arith, mul-le-mul k≤ b≤))
 
 pub dielectricResistance-most :
     {n t1 t2 t3 t4 : ℕ} → n ≤ 3 → t1 ≤ 10000000 → t2 ≤ 10000000 → t3 ≤ 10000000 → t4 ≤ 20000000 →
-    dielectricResistance n t1 t2 t3 t4 ≤ 250000000
+    dielectricResistance n t1 t2 t3 t4 ≤ mostDielectricResistance
 unfolding dielectricResistance
 dielectricResistance-most {n} {t2 = t2} {t3} {t4} n≤ t1≤ t2≤ t3≤ t4≤ =
     let outer≤ : t2 + t3 + t4 ≤ 40000000 = omega arith in
     omega (arith, mul-le-mul n≤ outer≤)
 
 pub dielectricRise-most :
-    {n wd t1 t2 t3 t4 : ℕ} → n ≤ 3 → wd ≤ 33500000000000000 → t1 ≤ 10000000 → t2 ≤ 10000000 → t3 ≤ 10000000 → t4 ≤ 20000000 →
-    dielectricRise n wd t1 t2 t3 t4 ≤ 4187500000000000
+    {n wd t1 t2 t3 t4 : ℕ} → n ≤ 3 → wd ≤ mostDielectricLoss → t1 ≤ 10000000 → t2 ≤ 10000000 → t3 ≤ 10000000 → t4 ≤ 20000000 →
+    dielectricRise n wd t1 t2 t3 t4 ≤ mostDielectricRise
 unfolding dielectricRise
 dielectricRise-most n≤ wd≤ t1≤ t2≤ t3≤ t4≤ =
     up-least _ _ (lit< tt) (mul-le-mul wd≤ (dielectricResistance-most n≤ t1≤ t2≤ t3≤ t4≤))
 
 -- The rise at unit current.
 
-pub unitRise-least : (n s w t2 t3 t4 : ℕ) {r t1 : ℕ} → 36500000000 ≤ r → 1000 ≤ t1 → 36500000 ≤ unitRise n r s w t1 t2 t3 t4
+pub unitRise-least :
+    (n s w t2 t3 t4 : ℕ) {r t1 : ℕ} → leastConductorResistance ≤ r → 1000 ≤ t1 → leastUnitRise ≤ unitRise n r s w t1 t2 t3 t4
 unfolding unitRise
 unitRise-least n s w t2 t3 t4 {r} {t1} r≥ t1≥ =
     let first : 36500000 ≤ up (r * t1) 1000000 = up-least-below _ _ (lit< tt) (omega (arith, mul-le-mul r≥ t1≥)) in
     omega arith
 
 pub unitRise-most :
-    {n r s w t1 t2 t3 t4 : ℕ} → n ≤ 3 → r ≤ 788000000000000 → s ≤ 610500000000000 → w ≤ 500610000000000 → t1 ≤ 10000000 →
-    t2 ≤ 10000000 → t3 ≤ 10000000 → t4 ≤ 20000000 → unitRise n r s w t1 t2 t3 t4 ≤ 221000000000000000
+    {n r s w t1 t2 t3 t4 : ℕ} → n ≤ 3 → r ≤ mostAcResistance → s ≤ mostSheathLoss → w ≤ mostArmourLoss → t1 ≤ 10000000 →
+    t2 ≤ 10000000 → t3 ≤ 10000000 → t4 ≤ 20000000 → unitRise n r s w t1 t2 t3 t4 ≤ mostUnitRise
 unfolding unitRise
 unitRise-most n≤ r≤ s≤ w≤ t1≤ t2≤ t3≤ t4≤ =
     let first = up-least _ 7880000000000000 {b = 1000000} (lit< tt) (mul-le-mul r≤ t1≤) in

@@ -8,7 +8,7 @@ use native.Mathlib.Omega.{arith}
 use lib.Dec.{T, leb, leb→le}
 use lib.ListN.{getD, length}
 use Rattle.formulas.specs.Laws.Ranges.{In}
-use Rattle.formulas.specs.Tables.{ksTable, kpTable, metalTable, entry, ks, kp, coefficient, conductorMetal}
+use Rattle.formulas.specs.Tables.{ksTable, kpTable, metalTable, ks, kp, coefficient, conductorMetal}
 
 all-most : ℕ → List ℕ → Bool
 all-most m [] = true
@@ -29,15 +29,15 @@ getD-most m (n ∷ table) t zero = leb→le n m (left (leb n m) (all-most m tabl
 getD-most m (n ∷ table) t (suc i) = getD-most m table (right (leb n m) (all-most m table) t) i
 
 pub ks-most : (code : ℕ) → ks code ≤ 1000
-unfolding ks entry ksTable all-most
+unfolding all-most
 ks-most code = getD-most 1000 ksTable tt (code - 1)
 
 pub kp-most : (code : ℕ) → kp code ≤ 1000
-unfolding kp entry kpTable all-most
+unfolding all-most
 kp-most code = getD-most 1000 kpTable tt (code - 1)
 
 pub coefficient-most : (metal : ℕ) → coefficient metal ≤ 450
-unfolding coefficient entry metalTable all-most
+unfolding all-most
 coefficient-most metal = getD-most 450 metalTable tt (metal - 1)
 
 pub conductorMetal-range : (code : ℕ) → (1 ≤ conductorMetal code) × (conductorMetal code ≤ 6)
@@ -59,9 +59,9 @@ getD-least m (n ∷ table) t zero i< = leb→le m n (left (leb m n) (all-least m
 getD-least m (n ∷ table) t (suc i) i< = getD-least m table (right (leb m n) (all-least m table) t) i (omega arith)
 
 pub ks-range : {code : ℕ} → In 1 8 code → In 120 1000 (ks code)
-unfolding ks entry ksTable all-least
+unfolding all-least
 ks-range {code} p = record { least = getD-least 120 ksTable tt (code - 1) (omega (arith, p .least, p .most)); most = ks-most code }
 
 pub kp-range : {code : ℕ} → In 1 8 code → In 120 1000 (kp code)
-unfolding kp entry kpTable all-least
+unfolding all-least
 kp-range {code} p = record { least = getD-least 120 kpTable tt (code - 1) (omega (arith, p .least, p .most)); most = kp-most code }

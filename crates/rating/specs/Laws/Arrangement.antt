@@ -3,8 +3,10 @@
 use mathlib.Core.List.{List}
 use Prim.Native.Nat.{ℕ, _≤_}
 use lib.Dec.{lit<, lit≤}
-use Rattle.exact.specs.Fraction.{Fraction, whole, ≤F-refl}
-use Rattle.exact.specs.Error.{Within, within-refl, within-weaken}
+use Rattle.exact.specs.Fraction.{Fraction, whole}
+use Rattle.exact.specs.Laws.Fraction.{≤F-refl}
+use Rattle.exact.specs.Error.{Within}
+use Rattle.exact.specs.Laws.Error.{within-refl, within-weaken}
 use Rattle.formulas.specs.Laws.Ranges.{In, dielectricRise-most}
 use Rattle.fields.specs.Fields as Field
 use Rattle.rating.specs.Chosen.{Chosen}

@@ -6,7 +6,8 @@ use native.Mathlib.Omega.{arith}
 use lib.Dec.{lit≤}
 use borrow.Author.Tests.{leb-true}
 use Rattle.exact.specs.Fraction.{whole}
-use Rattle.exact.specs.Error.{Within, within-weaken}
+use Rattle.exact.specs.Error.{Within}
+use Rattle.exact.specs.Laws.Error.{within-weaken}
 use Rattle.formulas.specs.Sheath.{circulatingLoss, circulatingLoss*}
 use Rattle.formulas.specs.Laws.Ranges.{In, circulatingLoss-most}
 use Rattle.formulas.specs.Laws.CloseSheath.{circulating-close}

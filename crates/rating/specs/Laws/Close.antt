@@ -4,13 +4,15 @@ use Prim.Native.Nat.{ℕ, _≤_, _<_}
 use native.Mathlib.Nat.{mul-le-mul-right}
 use native.Mathlib.Omega.{arith}
 use lib.Dec.{lit<, lit≤}
-use Rattle.exact.specs.Fraction.{whole, _≤F_, ≤F-refl}
-use Rattle.exact.specs.Error.{Within, within-weaken}
+use Rattle.exact.specs.Fraction.{whole, _≤F_}
+use Rattle.exact.specs.Laws.Fraction.{≤F-refl}
+use Rattle.exact.specs.Error.{Within}
+use Rattle.exact.specs.Laws.Error.{within-weaken}
 use Rattle.formulas.specs.Dielectric.{dielectricRise, dielectricRise*}
 use Rattle.formulas.specs.Laws.TableRange.{ks-range, kp-range}
-use Rattle.formulas.specs.Laws.CloseResistance.{resistance-close}
+use Rattle.formulas.specs.Laws.CloseProximity.{resistance-close}
 use Rattle.formulas.specs.Laws.CloseSpacing.{sheathReactance-close}
-use Rattle.formulas.specs.Laws.CloseScreening.{sheathReactanceLow-close}
+use Rattle.formulas.specs.Laws.CloseSpacingLow.{sheathReactanceLow-close}
 use Rattle.formulas.specs.Laws.CloseDielectric.{loss-close, dielectric-close}
 use Rattle.fields.specs.Fields as Field
 use Rattle.rating.specs.Values.{B, zs, zp, ys, G, yp, R, X, XLow, Wd}

@@ -7,7 +7,7 @@ use lib.Dec.{lit<, lit≤}
 use Rattle.exact.specs.Rounding.{up, down}
 use Rattle.exact.specs.Fraction.{_over_, whole, _≤F_, _<F_}
 use Rattle.exact.specs.Root.{root}
-use Rattle.formulas.specs.Tables.{ksTable, kpTable, metalTable, entry, ks, kp, coefficient, conductorMetal}
+use Rattle.formulas.specs.Tables.{conductorMetal}
 use Rattle.formulas.specs.Resistance.{temperatureFactor, resistance}
 use Rattle.formulas.specs.Reactance.{reactance, reactanceLow}
 use Rattle.formulas.specs.Skin.{skinReactance, skinRatio, skinRatioSquared, factor, skinFactor}
@@ -17,7 +17,7 @@ use Rattle.formulas.specs.Sheath.{bondRatio, bondRatioSquared, circulatingLoss,
 use Rattle.formulas.specs.Armour.{
   armourRatio,
   armourRatioSquared,
-  armourResistance,
+  reducedArmourResistance,
   unscreenedLoss,
   screeningRatioSquared,
   screenedLoss,
@@ -90,11 +90,11 @@ chosen =
 pub answer : (rateOf cable .number ≡ 0) × (rateOf cable .rating ≡ 457106)
 unfolding judged loaded rated fieldRefusal arrangementHeld conductorHeld limitsHeld conductorLimits sheathLimits thermalLimits
     strayHeld geometryHeld heatHeld metalHeld arrangementOf slType armourLimits alternating skinRefused eddyRefused
-    dielectricRefused currentRefused R' Rs RA B zs zp ys G yp R X XLow Wd riseOf N E currentOf ks kp coefficient conductorMetal
-    entry ksTable kpTable metalTable temperatureFactor resistance reactance reactanceLow skinReactance skinRatio skinRatioSquared
+    dielectricRefused currentRefused R' Rs RA B zs zp ys G yp R X XLow Wd riseOf N E currentOf conductorMetal
+    temperatureFactor resistance reactance reactanceLow skinReactance skinRatio skinRatioSquared
     factor skinFactor spacingRatio proximityH proximityG proximityFactor acResistance logLow logHigh thirteenTerms series firstPower
     doubled octaves doublings spacingLogHigh spacingLogLow sheathReactance sheathReactanceLow bondRatio bondRatioSquared
-    circulatingLoss threeHalves slLoss armourRatio armourRatioSquared armourResistance unscreenedLoss screeningRatioSquared
+    circulatingLoss threeHalves slLoss armourRatio armourRatioSquared reducedArmourResistance unscreenedLoss screeningRatioSquared
     screenedLoss armourLoss dielectricLoss dielectricResistance dielectricRise permittedRise currentRise unitRise rating root piLow
     piHigh ln2Low ln2High tera up down
 answer = (ap (λ a. a .number) (rateOf-is cable), ap (λ a. a .rating) (rateOf-is cable))

@@ -85,7 +85,7 @@ module _ {x : List ℕ} (c : Chosen x) (p : Passed x) where
   unfolding dielectricRefused permittedOf permittedRise
   share = omega (arith, ltb-false (9 * 10 ^ 7 * riseOf x) (10 * numbersOf x .dd) (p .dielectric))
 
-  rated-at : Law.Rated (E* x c) (numbersOf* x c .dd) (E x) (numbersOf x .dd) (N x) (permittedOf x) (currentOf x)
+  rated-at : Law.Stage10 (E* x c) (numbersOf* x c .dd) (E x) (numbersOf x .dd) (N x) (permittedOf x) (currentOf x)
   unfolding currentRefused currentOf N currentRise permittedOf permittedRise riseOf
   rated-at =
       record {

@@ -16,7 +16,7 @@ use Rattle.formulas.specs.Dielectric.{dielectricLoss}
 use Rattle.formulas.specs.Laws.TableRange.{coefficient-most}
 use Rattle.formulas.specs.Laws.LogRange.{logLow-most, logLow-least}
 use Rattle.formulas.specs.Laws.CloseSpacing.{sheathReactance-least, spacingLogHigh-least}
-use Rattle.formulas.specs.Laws.CloseScreening.{sheathReactanceLow-least}
+use Rattle.formulas.specs.Laws.CloseSpacingLow.{sheathReactanceLow-least}
 use Rattle.formulas.specs.Laws.Ranges as Law
 use Rattle.formulas.specs.Laws.Ranges.{In}
 use Rattle.fields.specs.Fields as Field

@@ -7,7 +7,8 @@ use lib.IntN.{pos, negℤ}
 use borrow.Author.Tests.{leb-true}
 use Rattle.bools.specs.Tests.{both}
 use Rattle.exact.specs.Fraction.{whole}
-use Rattle.exact.specs.Error.{Within, within-weaken}
+use Rattle.exact.specs.Error.{Within}
+use Rattle.exact.specs.Laws.Error.{within-weaken}
 use Rattle.formulas.specs.Sheath.{slLoss, slLoss*}
 use Rattle.formulas.specs.Armour.{armourLoss, armourLoss*}
 use Rattle.formulas.specs.Laws.Ranges as Law

@@ -5,9 +5,11 @@ use native.Mathlib.Omega.{arith}
 use native.Mathlib.Nat.{mul-le-mul}
 use lib.Dec.{lit<}
 use Rattle.exact.specs.Rounding.{up}
+use Rattle.exact.specs.Trillion.{trillion}
 use Rattle.formulas.specs.Constants.{tera}
 use Rattle.formulas.specs.Armour.{screeningRatioSquared, screenedLoss}
 use Rattle.formulas.specs.Laws.Ranges.{screeningRatioSquared-most, screening-most}
+use Rattle.formulas.specs.Bounds.{mostBondRatioSquared, mostArmourLoss}
 use Rattle.stages.proofs.Quotients.{fits-up}
 use Prim.Native.Nat.{ℕ, _+_, _*_, _≤_}
 use Rattle.stages.proofs.armour.screened_loss.Statement.{statement}
@@ -16,38 +18,28 @@ use Rattle.stages.proofs.armour.screened_loss.Tie as tie
 abbrev screening : tie.After-mul-div-up → ℕ
 screening c = screeningRatioSquared (c .before .before .args .x) (c .before .before .args .rs)
 
-v2-most : (c : tie.After-screening-ratio-squared) → c .screening-ratio-squared .result ≤ 4338889000000000000
+v2-most : (c : tie.After-screening-ratio-squared) → c .screening-ratio-squared .result ≤ mostBondRatioSquared
 v2-most c = omega (arith, screeningRatioSquared-most (c .before .pre .1) (c .before .pre .2), c .screening-ratio-squared .ensures)
 
 share-is : (c : tie.After-mul-div-up) → c .mul-div-up .result ≡ up (tera * tera) (tera + screening c)
 unfolding tera
 share-is c =
     c .mul-div-up .ensures
-    ∙ ap (λ v2. up (1000000000000 * 1000000000000) (1000000000000 + v2)) (c .before .screening-ratio-squared .ensures)
-
-add-mul-div-up : tie.Need-add-mul-div-up
-add-mul-div-up c = omega (arith, v2-most c)
-
-mul-div-up-requires : tie.Need-mul-div-up-requires
-mul-div-up-requires c κs = (omega arith, fits-up 1000000000000 (omega arith) (omega arith) tt)
+    ∙ ap (λ v2. up (trillion * trillion) (trillion + v2)) (c .before .screening-ratio-squared .ensures)
 
 mul-div-up-trillion-requires : tie.Need-mul-div-up-trillion-requires
 mul-div-up-trillion-requires c κs =
-    let share≤ : c .mul-div-up .result ≤ 1000000000000 = omega (arith, share-is c, screening-most (screening c)) in
-    fits-up 500610000000000 (lit< tt) (mul-le-mul (c .before .before .pre .0) share≤) tt
+    let share≤ : c .mul-div-up .result ≤ trillion = omega (arith, share-is c, screening-most (screening c)) in
+    fits-up mostArmourLoss (lit< tt) (mul-le-mul (c .before .before .pre .0) share≤) tt
 
 returns : tie.Need-returns
 unfolding screenedLoss tera
 returns c =
     let w = c .before .before .before .args .w in
-    c .mul-div-up-trillion .ensures ∙ ap (λ share. up (w * share) 1000000000000) (share-is (c .before))
+    c .mul-div-up-trillion .ensures ∙ ap (λ share. up (w * share) trillion) (share-is (c .before))
 
 pub screened-loss-spec : {M : Type 1} → statement M
 screened-loss-spec =
     tie.close
-    (tie.spec
-    (λ c κs. search needs)
-    add-mul-div-up
-    mul-div-up-requires
-    mul-div-up-trillion-requires
-    returns)
+    (tie.spec (λ c κs. search needs) (λ c. omega (arith, v2-most c))
+    (λ c κs. (omega arith, fits-up trillion (omega arith) (omega arith) tt)) mul-div-up-trillion-requires returns)

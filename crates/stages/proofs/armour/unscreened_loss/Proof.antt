@@ -5,9 +5,11 @@ use native.Mathlib.Omega.{arith}
 use native.Mathlib.Nat.{mul-le-mul, mul-pos, le-trans}
 use lib.Dec.{lit<, lit≤}
 use Rattle.exact.specs.Rounding.{up}
+use Rattle.exact.specs.Trillion.{trillion}
 use Rattle.formulas.specs.Constants.{tera}
 use Rattle.formulas.specs.Armour.{unscreenedLoss}
-use Rattle.formulas.specs.Laws.Ranges.{armourResistance-most, armourSpacing-most}
+use Rattle.formulas.specs.Laws.Ranges.{reducedArmourResistance-most, armourSpacing-most}
+use Rattle.formulas.specs.Bounds.{mostArmourLoss}
 use Rattle.stages.proofs.Quotients.{fits-up}
 use Prim.Native.Nat.{_*_, _≤_}
 use Rattle.stages.proofs.armour.unscreened_loss.Statement.{statement}
@@ -22,51 +24,33 @@ place-is :
 unfolding tera
 place-is c = c .mul-div-up .ensures
 
-r-most : (c : tie.After-armour-resistance) → 123 * c .armour-resistance .result ≤ 50061000000000000
+r-most : (c : tie.After-reduced-armour-resistance) → 123 * c .reduced-armour-resistance .result ≤ 50061000000000000
 r-most c =
     let args = c .before .before .args in
-    omega (arith, armourResistance-most (args .ra) (args .b), c .armour-resistance .ensures, c .before .before .pre .0)
-
-mul-mul-div-up : tie.Need-mul-mul-div-up
-mul-mul-div-up c = omega (arith, c-squared c)
-
-mul-mul-div-up-2 : tie.Need-mul-mul-div-up-2
-mul-mul-div-up-2 c = omega (arith, c-squared c)
-
-mul-mul-div-up-3 : tie.Need-mul-mul-div-up-3
-mul-mul-div-up-3 c = omega (arith, mul-le-mul (c .pre .3) (c .pre .3))
+    omega (arith, reducedArmourResistance-most (args .ra) (args .b), c .reduced-armour-resistance .ensures, c .before .before .pre .0)
 
 mul-div-up-requires : tie.Need-mul-div-up-requires
 mul-div-up-requires c κs =
     let da²>0 = mul-pos (c .pre .2) (c .pre .2) in
-    (da²>0, fits-up 1000000000000 da²>0 (omega (arith, mul-le-mul (c .pre .4) (c .pre .4))) tt)
-
-mul-mul-div-up-4 : tie.Need-mul-mul-div-up-4
-mul-mul-div-up-4 c = omega (arith, r-most c)
+    (da²>0, fits-up trillion da²>0 (omega (arith, mul-le-mul (c .pre .4) (c .pre .4))) tt)
 
 mul-div-up-requires-2 : tie.Need-mul-div-up-requires-2
 mul-div-up-requires-2 c κs =
     let pre = c .before .before .pre in
-    let place≤ : c .before .mul-div-up .result ≤ 1000000000000 =
+    let place≤ : c .before .mul-div-up .result ≤ trillion =
     omega (arith, place-is (c .before), armourSpacing-most (c .before .before .args .c) (pre .2) (pre .4))
     in
-    (lit< tt, fits-up 500610000000000 (lit< tt) (le-trans (mul-le-mul (r-most c) place≤) (lit≤ tt)) tt)
+    (lit< tt, fits-up mostArmourLoss (lit< tt) (le-trans (mul-le-mul (r-most c) place≤) (lit≤ tt)) tt)
 
 returns : tie.Need-returns
 unfolding unscreenedLoss
 returns c =
     c .mul-div-up2 .ensures
-    ∙ ap₂ (λ r place. up (123 * r * place) 100000000000000) (c .before .armour-resistance .ensures) (place-is (c .before .before))
+    ∙ ap₂ (λ r place. up (123 * r * place) 100000000000000) (c .before .reduced-armour-resistance .ensures) (place-is (c .before .before))
 
 pub unscreened-loss-spec : {M : Type 1} → statement M
 unscreened-loss-spec =
     tie.close
-    (tie.spec
-    mul-mul-div-up
-    mul-mul-div-up-2
-    mul-mul-div-up-3
-    mul-div-up-requires
-    (λ c κs. search needs)
-    mul-mul-div-up-4
-    mul-div-up-requires-2
-    returns)
+    (tie.spec (λ c. omega (arith, c-squared c)) (λ c. omega (arith, c-squared c))
+    (λ c. omega (arith, mul-le-mul (c .pre .3) (c .pre .3))) mul-div-up-requires (λ c κs. search needs)
+    (λ c. omega (arith, r-most c)) mul-div-up-requires-2 returns)

@@ -3,6 +3,7 @@ use borrow.Author.Needs.{needs}
 use native.Mathlib.Omega.{arith}
 use native.Mathlib.Nat.{mul-le-mul}
 use Rattle.formulas.specs.Dielectric.{dielectricLoss}
+use Rattle.formulas.specs.Bounds.{mostDielectricLoss}
 use Rattle.stages.proofs.Quotients.{fits-up}
 use Prim.Native.Nat.{_*_, _≤_}
 use Rattle.stages.proofs.dielectric.dielectric_loss.Statement.{statement}
@@ -14,29 +15,13 @@ voltage-most c = mul-le-mul (c .pre .0) (mul-le-mul (c .pre .1) (c .pre .1))
 product-most : (c : tie.Start) → c .args .e * (c .args .u0 * c .args .u0) * c .args .t ≤ 720000000000000000
 product-most c = mul-le-mul (voltage-most c) (c .pre .2)
 
-mul-mul-div-up : tie.Need-mul-mul-div-up
-mul-mul-div-up c = omega (arith, mul-le-mul (c .pre .1) (c .pre .1))
-
-mul-mul-div-up-2 : tie.Need-mul-mul-div-up-2
-mul-mul-div-up-2 c = omega (arith, voltage-most c)
-
-mul-mul-div-up-3 : tie.Need-mul-mul-div-up-3
-mul-mul-div-up-3 c = omega (arith, product-most c)
-
 mul-div-up-requires : tie.Need-mul-div-up-requires
-mul-div-up-requires c κs = (omega arith, fits-up 33500000000000000 (omega arith) (omega (arith, mul-le-mul (product-most c) (c .pre .3))) tt)
-
-returns : tie.Need-returns
-unfolding dielectricLoss
-returns c = c .mul-div-up .ensures
+mul-div-up-requires c κs =
+    (omega arith, fits-up mostDielectricLoss (omega arith) (omega (arith, mul-le-mul (product-most c) (c .pre .3))) tt)
 
 pub dielectric-loss-spec : {M : Type 1} → statement M
+unfolding dielectricLoss
 dielectric-loss-spec =
     tie.close
-    (tie.spec
-    mul-mul-div-up
-    mul-mul-div-up-2
-    mul-mul-div-up-3
-    (λ c. search needs)
-    mul-div-up-requires
-    returns)
+    (tie.spec (λ c. omega (arith, mul-le-mul (c .pre .1) (c .pre .1))) (λ c. omega (arith, voltage-most c))
+    (λ c. omega (arith, product-most c)) (λ c. search needs) mul-div-up-requires (λ c. c .mul-div-up .ensures))

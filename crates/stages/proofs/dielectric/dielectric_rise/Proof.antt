@@ -5,6 +5,7 @@ use native.Mathlib.Nat.{mul-le-mul}
 use lib.Dec.{lit<}
 use Rattle.formulas.specs.Dielectric.{dielectricResistance, dielectricRise}
 use Rattle.formulas.specs.Laws.Ranges.{dielectricResistance-most}
+use Rattle.formulas.specs.Bounds.{mostDielectricRise}
 use Rattle.stages.proofs.Quotients.{fits-up}
 use Prim.Native.Nat.{_+_, _*_, _≤_}
 use Rattle.stages.proofs.dielectric.dielectric_rise.Statement.{statement}
@@ -16,31 +17,16 @@ outer-most c =
     let t≤ : c .args .t2 + c .args .t3 + c .args .t4 ≤ 40000000 = omega (arith, c .pre) in
     mul-le-mul n≤ t≤
 
-mul-mul-div-up-2 : tie.Need-mul-mul-div-up-2
-mul-mul-div-up-2 c = omega (arith, outer-most c)
-
-add-mul-div-up-3 : tie.Need-add-mul-div-up-3
-add-mul-div-up-3 c = omega (arith, outer-most c)
-
 mul-div-up-requires : tie.Need-mul-div-up-requires
 unfolding dielectricResistance
 mul-div-up-requires c κs =
     let pre = c .pre in
     let t≤ = dielectricResistance-most (pre .0) (pre .2) (pre .3) (pre .4) (pre .5) in
-    (lit< tt, fits-up 4187500000000000 (lit< tt) (mul-le-mul (pre .1) t≤) tt)
-
-returns : tie.Need-returns
-unfolding dielectricRise dielectricResistance
-returns c = c .mul-div-up .ensures
+    (lit< tt, fits-up mostDielectricRise (lit< tt) (mul-le-mul (pre .1) t≤) tt)
 
 pub dielectric-rise-spec : {M : Type 1} → statement M
+unfolding dielectricRise dielectricResistance
 dielectric-rise-spec =
     tie.close
-    (tie.spec
-    (λ c. search needs)
-    (λ c. search needs)
-    (λ c. search needs)
-    mul-mul-div-up-2
-    add-mul-div-up-3
-    mul-div-up-requires
-    returns)
+    (tie.spec (λ c. search needs) (λ c. search needs) (λ c. search needs) (λ c. omega (arith, outer-most c))
+    (λ c. omega (arith, outer-most c)) mul-div-up-requires (λ c. c .mul-div-up .ensures))

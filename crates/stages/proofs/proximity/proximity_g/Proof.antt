@@ -8,12 +8,10 @@ use Rattle.stages.proofs.Quotients.{fits-up}
 use Rattle.stages.proofs.proximity.proximity_g.Statement.{statement}
 use Rattle.stages.proofs.proximity.proximity_g.Tie as tie
 
-mul-div-up-requires : tie.Need-mul-div-up-requires
-mul-div-up-requires c κs = (lit< tt, fits-up 80000000000 (lit< tt) (omega (arith, mul-le-mul (c .pre .0) (c .pre .1))) tt)
-
-returns : tie.Need-returns
-unfolding proximityG
-returns c = c .mul-div-up .ensures
-
 pub proximity-g-spec : {M : Type 1} → statement M
-proximity-g-spec = tie.close (tie.spec (λ c. search needs) mul-div-up-requires returns)
+unfolding proximityG
+proximity-g-spec =
+    tie.close
+    (tie.spec (λ c. search needs)
+    (λ c κs. (lit< tt, fits-up 80000000000 (lit< tt) (omega (arith, mul-le-mul (c .pre .0) (c .pre .1))) tt))
+    (λ c. c .mul-div-up .ensures))

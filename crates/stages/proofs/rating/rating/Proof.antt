@@ -2,21 +2,21 @@
 use borrow.Author.Needs.{needs}
 use mathlib.Core.Path.{_∙_, ap}
 use native.Mathlib.Omega.{arith}
-use Rattle.exact.specs.Root.{root, root-is, root-only}
+use Rattle.exact.specs.Root.{root}
+use Rattle.exact.specs.Laws.Root.{root-is, root-only}
 use Rattle.formulas.specs.Rating.{rating}
 use Rattle.stages.proofs.Quotients.{fits-down}
 use Rattle.stages.proofs.rating.rating.Statement.{statement}
 use Rattle.stages.proofs.rating.rating.Tie as tie
 
-mul-div-down-requires : tie.Need-mul-div-down-requires
-mul-div-down-requires c κs = (omega arith, fits-down 80000000000000000 (omega arith) (omega arith) tt)
-
 returns : tie.Need-returns
 unfolding rating
 returns c =
-    let q = c .before .mul-div-down .result in
-    let p = c .root .ensures in
-    root-only (record { below = p .0; above = p .1 }) (root-is q) ∙ ap root (c .before .mul-div-down .ensures)
+    let q = c .before .mul-div-down in
+    root-only (c .root .ensures) (root-is (q .result)) ∙ ap root (q .ensures)
 
 pub rating-spec : {M : Type 1} → statement M
-rating-spec = tie.close (tie.spec mul-div-down-requires (λ c κs. search needs) returns)
+rating-spec =
+    tie.close
+    (tie.spec (λ c κs. (omega arith, fits-down 80000000000000000 (omega arith) (omega arith) tt))
+    (λ c κs. search needs) returns)

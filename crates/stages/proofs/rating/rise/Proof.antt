@@ -2,14 +2,11 @@
 use native.Mathlib.Omega.{arith}
 use native.Mathlib.Nat.{mul-le-mul}
 use lib.Dec.{lit<}
-use Rattle.exact.specs.Rounding.{up-least}
+use Rattle.exact.specs.Laws.Rounding.{up-least}
 use Rattle.stages.proofs.Quotients.{fits-up}
 use Prim.Native.Nat.{_*_, _≤_}
 use Rattle.stages.proofs.rating.rise.Statement.{statement}
 use Rattle.stages.proofs.rating.rise.Tie as tie
-
-mul-div-up-requires : tie.Need-mul-div-up-requires
-mul-div-up-requires c κs = (lit< tt, fits-up 180000000000000000 (lit< tt) (mul-le-mul (c .pre .0) (c .pre .1)) tt)
 
 returns : tie.Need-returns
 returns c =
@@ -21,4 +18,7 @@ returns c =
     )
 
 pub rise-spec : {M : Type 1} → statement M
-rise-spec = tie.close (tie.spec mul-div-up-requires returns)
+rise-spec =
+    tie.close
+    (tie.spec (λ c κs. (lit< tt, fits-up 180000000000000000 (lit< tt) (mul-le-mul (c .pre .0) (c .pre .1)) tt))
+    returns)

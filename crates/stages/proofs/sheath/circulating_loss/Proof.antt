@@ -4,34 +4,33 @@ use mathlib.Core.Path.{_∙_, ap}
 use native.Mathlib.Omega.{arith}
 use native.Mathlib.Nat.{mul-le-mul-right}
 use Rattle.exact.specs.Rounding.{up}
+use Rattle.exact.specs.Trillion.{trillion}
 use Rattle.formulas.specs.Constants.{tera}
 use Rattle.formulas.specs.Sheath.{circulatingLoss}
 use Rattle.formulas.specs.Laws.Ranges.{bondRatio-most, bondRatioSquared-most}
+use Rattle.formulas.specs.Bounds.{mostResistance, mostBondRatioSquared}
 use Rattle.stages.proofs.Quotients.{fits-up}
 use Prim.Native.Nat.{_+_, _*_, _≤_}
 use Rattle.stages.proofs.sheath.circulating_loss.Statement.{statement}
 use Rattle.stages.proofs.sheath.circulating_loss.Tie as tie
 
-v2-most : (c : tie.After-bond-ratio-squared) → c .bond-ratio-squared .result ≤ 4338889000000000000
+v2-most : (c : tie.After-bond-ratio-squared) → c .bond-ratio-squared .result ≤ mostBondRatioSquared
 v2-most c =
     omega
     (arith, bondRatioSquared-most (bondRatio-most (c .before .pre .0) (c .before .pre .1)), c .bond-ratio-squared .ensures)
-
-add-mul-div-up : tie.Need-add-mul-div-up
-add-mul-div-up c = omega (arith, v2-most c)
 
 mul-div-up-requires : tie.Need-mul-div-up-requires
 mul-div-up-requires c κs =
     let rs = c .before .args .rs in
     let v2 = c .bond-ratio-squared .result in
-    (omega arith, fits-up 407000000000000 (omega arith) (omega (arith, mul-le-mul-right v2 (c .before .pre .2))) tt)
+    (omega arith, fits-up mostResistance (omega arith) (omega (arith, mul-le-mul-right v2 (c .before .pre .2))) tt)
 
 returns : tie.Need-returns
 unfolding circulatingLoss tera
 returns c =
     c .mul-div-up .ensures
-    ∙ ap (λ v2. up (c .before .before .args .rs * v2) (1000000000000 + v2)) (c .before .bond-ratio-squared .ensures)
+    ∙ ap (λ v2. up (c .before .before .args .rs * v2) (trillion + v2)) (c .before .bond-ratio-squared .ensures)
 
 pub circulating-loss-spec : {M : Type 1} → statement M
 circulating-loss-spec =
-    tie.close (tie.spec (λ c κs. search needs) add-mul-div-up mul-div-up-requires returns)
+    tie.close (tie.spec (λ c κs. search needs) (λ c. omega (arith, v2-most c)) mul-div-up-requires returns)

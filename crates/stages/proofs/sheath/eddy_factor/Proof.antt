@@ -5,9 +5,11 @@ use native.Mathlib.Omega.{arith}
 use native.Mathlib.Nat.{mul-le-mul}
 use lib.Dec.{lit<}
 use Rattle.exact.specs.Rounding.{up}
+use Rattle.exact.specs.Trillion.{trillion}
 use Rattle.formulas.specs.Constants.{tera}
 use Rattle.formulas.specs.Sheath.{eddyRatio, eddyRatioSquared, eddyFactor}
 use Rattle.formulas.specs.Laws.Ranges.{eddyRatio-most, eddyRatioSquared-most}
+use Rattle.formulas.specs.Bounds.{mostEddyRatio, mostEddyFactor}
 use Rattle.stages.proofs.Quotients.{fits-up}
 use Prim.Native.Nat.{_+_, _*_, _≤_}
 use Rattle.stages.proofs.sheath.eddy_factor.Statement.{statement}
@@ -17,44 +19,26 @@ m-is : (c : tie.After-mul-div-up) → c .mul-div-up .result ≡ eddyRatio (c .be
 unfolding eddyRatio tera
 m-is c = c .mul-div-up .ensures
 
-m-most : (c : tie.After-mul-div-up) → c .mul-div-up .result ≤ 100000000000
+m-most : (c : tie.After-mul-div-up) → c .mul-div-up .result ≤ mostEddyRatio
 m-most c = omega (arith, m-is c, eddyRatio-most (c .before .args .b) (c .before .pre .0) (c .before .pre .2))
 
 m2-is :
     (c : tie.After-mul-div-up-trillion) →
     c .mul-div-up-trillion .result ≡ eddyRatioSquared (eddyRatio (c .before .before .args .b) (c .before .before .args .rs))
 unfolding eddyRatioSquared tera
-m2-is c = c .mul-div-up-trillion .ensures ∙ ap (λ m. up (m * m) 1000000000000) (m-is (c .before))
+m2-is c = c .mul-div-up-trillion .ensures ∙ ap (λ m. up (m * m) trillion) (m-is (c .before))
 
-m2-most : (c : tie.After-mul-div-up-trillion) → c .mul-div-up-trillion .result ≤ 10000000000
+m2-most : (c : tie.After-mul-div-up-trillion) → c .mul-div-up-trillion .result ≤ mostEddyFactor
 m2-most c =
     let pre = c .before .before .pre in
     omega (arith, m2-is c, eddyRatioSquared-most (eddyRatio-most (c .before .before .args .b) (pre .0) (pre .2)))
 
-mul-div-up-requires : tie.Need-mul-div-up-requires
-mul-div-up-requires c κs = (omega arith, fits-up 100000000000 (omega arith) (omega arith) tt)
-
-mul-div-up-trillion-requires : tie.Need-mul-div-up-trillion-requires
-mul-div-up-trillion-requires c κs = fits-up 10000000000 (lit< tt) (omega (arith, mul-le-mul (m-most c) (m-most c))) tt
-
-add-mul-div-up : tie.Need-add-mul-div-up
-add-mul-div-up c = omega (arith, m2-most c)
-
-mul-div-up-requires-2 : tie.Need-mul-div-up-requires-2
-mul-div-up-requires-2 c κs = (omega arith, fits-up 10000000000 (omega arith) (omega (arith, m2-most c)) tt)
-
-returns : tie.Need-returns
-unfolding eddyFactor tera
-returns c =
-    c .mul-div-up2 .ensures ∙ ap (λ m2. up (m2 * 1000000000000) (1000000000000 + m2)) (m2-is (c .before))
-
 pub eddy-factor-spec : {M : Type 1} → statement M
+unfolding eddyFactor tera
 eddy-factor-spec =
     tie.close
-    (tie.spec
-    (λ c. search needs)
-    mul-div-up-requires
-    mul-div-up-trillion-requires
-    add-mul-div-up
-    mul-div-up-requires-2
-    returns)
+    (tie.spec (λ c. search needs) (λ c κs. (omega arith, fits-up mostEddyRatio (omega arith) (omega arith) tt))
+    (λ c κs. fits-up mostEddyFactor (lit< tt) (omega (arith, mul-le-mul (m-most c) (m-most c))) tt)
+    (λ c. omega (arith, m2-most c))
+    (λ c κs. (omega arith, fits-up mostEddyFactor (omega arith) (omega (arith, m2-most c)) tt))
+    (λ c. c .mul-div-up2 .ensures ∙ ap (λ m2. up (m2 * trillion) (trillion + m2)) (m2-is (c .before))))

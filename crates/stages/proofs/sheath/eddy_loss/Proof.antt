@@ -4,47 +4,44 @@ use mathlib.Core.Path.{_∙_, ap, ap₂}
 use native.Mathlib.Omega.{arith}
 use native.Mathlib.Nat.{mul-le-mul, le-trans}
 use lib.Dec.{lit<, lit≤}
-use Rattle.exact.specs.Rounding.{up, up-least}
+use Rattle.exact.specs.Rounding.{up}
+use Rattle.exact.specs.Laws.Rounding.{up-least}
+use Rattle.exact.specs.Trillion.{trillion}
 use Rattle.formulas.specs.Constants.{tera}
 use Rattle.formulas.specs.Sheath.{eddyLoss}
-use Rattle.formulas.specs.Laws.Ranges.{eddyRatio-most, eddyRatioSquared-most, eddyFactor-most, eddySpacing-most}
+use Rattle.formulas.specs.Laws.Ranges.{eddyFactor-most, eddySpacing-most}
+use Rattle.formulas.specs.Bounds.{mostEddySpacing, mostEddyInner, mostEddyFactor}
 use Rattle.stages.proofs.Quotients.{fits-up}
 use Prim.Native.Nat.{_*_, _≤_}
 use Rattle.stages.proofs.sheath.eddy_loss.Statement.{statement}
 use Rattle.stages.proofs.sheath.eddy_loss.Tie as tie
 
-product-most : (c : tie.After-eddy-factor) → c .before .args .rs * c .eddy-factor .result ≤ 4070000000000 * 1000000000000
+product-most : (c : tie.After-eddy-factor) → c .before .args .rs * c .eddy-factor .result ≤ mostEddyInner * trillion
 product-most c =
     let pre = c .before .pre in
-    let e≤ : c .eddy-factor .result ≤ 10000000000 =
+    let e≤ : c .eddy-factor .result ≤ mostEddyFactor =
     omega (
       arith,
-      eddyFactor-most (eddyRatioSquared-most (eddyRatio-most (c .before .args .b) (pre .1) (pre .3))),
+      eddyFactor-most (c .before .args .b) (pre .1) (pre .3),
       c .eddy-factor .ensures,
     )
     in
     le-trans (mul-le-mul (pre .2) e≤) (lit≤ tt)
 
 cores-most :
-    (c : tie.After-mul-div-up-trillion) → 3 * c .before .before .args .j * c .mul-div-up-trillion .result ≤ 6 * 4070000000000
+    (c : tie.After-mul-div-up-trillion) → 3 * c .before .before .args .j * c .mul-div-up-trillion .result ≤ 6 * mostEddyInner
 cores-most c =
     let j≤ : 3 * c .before .before .args .j ≤ 6 = omega (arith, c .before .before .pre .0) in
-    let inner≤ : c .mul-div-up-trillion .result ≤ 4070000000000 =
+    let inner≤ : c .mul-div-up-trillion .result ≤ mostEddyInner =
     omega
-    (arith, up-least _ 4070000000000 {b = 1000000000000} (lit< tt) (product-most (c .before)), c .mul-div-up-trillion .ensures)
+    (arith, up-least _ mostEddyInner {b = trillion} (lit< tt) (product-most (c .before)), c .mul-div-up-trillion .ensures)
     in
     mul-le-mul j≤ inner≤
-
-mul-div-up-trillion-requires : tie.Need-mul-div-up-trillion-requires
-mul-div-up-trillion-requires c κs = fits-up 4070000000000 (lit< tt) (product-most c) tt
-
-mul-mul-div-up-trillion-2 : tie.Need-mul-mul-div-up-trillion-2
-mul-mul-div-up-trillion-2 c = omega (arith, cores-most c)
 
 mul-div-up-trillion-requires-2 : tie.Need-mul-div-up-trillion-requires-2
 mul-div-up-trillion-requires-2 c κs =
     let pre = c .before .before .before .pre in
-    let place≤ : c .eddy-spacing .result ≤ 250000000000 = omega (arith, eddySpacing-most (pre .4) (pre .6), c .eddy-spacing .ensures) in
+    let place≤ : c .eddy-spacing .result ≤ mostEddySpacing = omega (arith, eddySpacing-most (pre .4) (pre .6), c .eddy-spacing .ensures) in
     fits-up 6105000000000 (lit< tt) (le-trans (mul-le-mul (cores-most (c .before)) place≤) (lit≤ tt)) tt
 
 returns : tie.Need-returns
@@ -53,18 +50,12 @@ returns c =
     let rs = c .before .before .before .before .args .rs in
     let j = c .before .before .before .before .args .j in
     c .mul-div-up-trillion2 .ensures
-    ∙ ap₂ (λ inner place. up (3 * j * inner * place) 1000000000000)
-    (c .before .before .mul-div-up-trillion .ensures ∙ ap (λ e. up (rs * e) 1000000000000) (c .before .before .before .eddy-factor .ensures))
+    ∙ ap₂ (λ inner place. up (3 * j * inner * place) trillion)
+    (c .before .before .mul-div-up-trillion .ensures ∙ ap (λ e. up (rs * e) trillion) (c .before .before .before .eddy-factor .ensures))
     (c .before .eddy-spacing .ensures)
 
 pub eddy-loss-spec : {M : Type 1} → statement M
 eddy-loss-spec =
     tie.close
-    (tie.spec
-    (λ c κs. search needs)
-    mul-div-up-trillion-requires
-    (λ c. search needs)
-    mul-mul-div-up-trillion-2
-    (λ c κs. search needs)
-    mul-div-up-trillion-requires-2
-    returns)
+    (tie.spec (λ c κs. search needs) (λ c κs. fits-up mostEddyInner (lit< tt) (product-most c) tt) (λ c. search needs)
+    (λ c. omega (arith, cores-most c)) (λ c κs. search needs) mul-div-up-trillion-requires-2 returns)

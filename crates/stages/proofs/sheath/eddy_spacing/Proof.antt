@@ -3,29 +3,20 @@ use native.Mathlib.Omega.{arith}
 use native.Mathlib.Nat.{mul-le-mul, mul-pos}
 use Rattle.formulas.specs.Constants.{tera}
 use Rattle.formulas.specs.Sheath.{eddySpacing}
+use Rattle.formulas.specs.Bounds.{mostEddySpacing}
 use Rattle.stages.proofs.Quotients.{fits-up}
 use Rattle.stages.proofs.sheath.eddy_spacing.Statement.{statement}
 use Rattle.stages.proofs.sheath.eddy_spacing.Tie as tie
 
-mul-mul-div-up : tie.Need-mul-mul-div-up
-mul-mul-div-up c = omega (arith, mul-le-mul (c .pre .2) (c .pre .2), mul-le-mul (c .pre .1) (c .pre .1))
-
-mul-mul-div-up-2 : tie.Need-mul-mul-div-up-2
-mul-mul-div-up-2 c = omega (arith, mul-le-mul (c .pre .1) (c .pre .1))
-
-mul-mul-div-up-3 : tie.Need-mul-mul-div-up-3
-mul-mul-div-up-3 c = omega (arith, mul-le-mul (c .pre .1) (c .pre .1))
-
 mul-div-up-requires : tie.Need-mul-div-up-requires
 mul-div-up-requires c κs =
     let s²>0 = mul-pos (c .pre .0) (c .pre .0) in
-    (omega arith, fits-up 250000000000 (omega arith) (omega (arith, mul-le-mul (c .pre .2) (c .pre .2))) tt)
-
-returns : tie.Need-returns
-unfolding eddySpacing tera
-returns c = c .mul-div-up .ensures
+    (omega arith, fits-up mostEddySpacing (omega arith) (omega (arith, mul-le-mul (c .pre .2) (c .pre .2))) tt)
 
 pub eddy-spacing-spec : {M : Type 1} → statement M
+unfolding eddySpacing tera
 eddy-spacing-spec =
     tie.close
-    (tie.spec mul-mul-div-up mul-mul-div-up-2 mul-mul-div-up-3 mul-div-up-requires returns)
+    (tie.spec (λ c. omega (arith, mul-le-mul (c .pre .2) (c .pre .2), mul-le-mul (c .pre .1) (c .pre .1)))
+    (λ c. omega (arith, mul-le-mul (c .pre .1) (c .pre .1))) (λ c. omega (arith, mul-le-mul (c .pre .1) (c .pre .1)))
+    mul-div-up-requires (λ c. c .mul-div-up .ensures))

@@ -1,12 +1,15 @@
 -- `stages::skin::factor` is the definition: w, and the quotient of it.
+use borrow.Author.Needs.{needs}
 use mathlib.Core.Path.{_∙_, ap, _≡_}
 use native.Mathlib.Omega.{arith}
 use native.Mathlib.Nat.{mul-le-mul}
 use lib.Dec.{lit<}
 use Rattle.exact.specs.Rounding.{up}
+use Rattle.exact.specs.Trillion.{trillion}
 use Rattle.formulas.specs.Constants.{tera}
 use Rattle.formulas.specs.Skin.{skinRatioSquared, factor}
 use Rattle.formulas.specs.Laws.Ranges.{skinRatioSquared-most}
+use Rattle.formulas.specs.Bounds.{mostSkinRatioSquared}
 use Rattle.stages.proofs.Quotients.{fits-up}
 use Prim.Native.Nat.{_+_, _*_, _≤_}
 use Rattle.stages.proofs.skin.factor.Statement.{statement}
@@ -16,35 +19,14 @@ w-is : (c : tie.After-mul-div-up-trillion) → c .mul-div-up-trillion .result �
 unfolding skinRatioSquared tera
 w-is c = c .mul-div-up-trillion .ensures
 
-w-most : (c : tie.After-mul-div-up-trillion) → c .mul-div-up-trillion .result ≤ 61465600000000
+w-most : (c : tie.After-mul-div-up-trillion) → c .mul-div-up-trillion .result ≤ mostSkinRatioSquared
 w-most c = omega (arith, w-is c, skinRatioSquared-most (c .before .pre))
 
-mul-div-up-trillion-requires : tie.Need-mul-div-up-trillion-requires
-mul-div-up-trillion-requires c κs = fits-up 61465600000000 (lit< tt) (omega (arith, mul-le-mul (c .pre) (c .pre))) tt
-
-mul-mul-div-up : tie.Need-mul-mul-div-up
-mul-mul-div-up c = omega (arith, w-most c)
-
-mul-mul-div-up-2 : tie.Need-mul-mul-div-up-2
-mul-mul-div-up-2 c = omega (arith, w-most c)
-
-add-mul-div-up : tie.Need-add-mul-div-up
-add-mul-div-up c = omega (arith, w-most c)
-
-mul-div-up-requires : tie.Need-mul-div-up-requires
-mul-div-up-requires c κs = (omega arith, fits-up 61465600000000 (omega arith) (omega (arith, w-most c)) tt)
-
-returns : tie.Need-returns
-unfolding factor tera
-returns c = c .mul-div-up .ensures ∙ ap (λ w. up (5 * w * 1000000000000) (960000000000000 + 4 * w)) (w-is (c .before))
-
 pub factor-spec : {M : Type 1} → statement M
+unfolding factor tera
 factor-spec =
     tie.close
-    (tie.spec
-    mul-div-up-trillion-requires
-    mul-mul-div-up
-    mul-mul-div-up-2
-    add-mul-div-up
-    mul-div-up-requires
-    returns)
+    (tie.spec (λ c κs. fits-up mostSkinRatioSquared (lit< tt) (omega (arith, mul-le-mul (c .pre) (c .pre))) tt)
+    (λ c. omega (arith, w-most c)) (λ c. search needs) (λ c. omega (arith, w-most c)) (λ c. omega (arith, w-most c))
+    (λ c κs. (omega arith, fits-up mostSkinRatioSquared (omega arith) (omega (arith, w-most c)) tt))
+    (λ c. c .mul-div-up .ensures ∙ ap (λ w. up (5 * w * trillion) (960 * trillion + 4 * w)) (w-is (c .before))))

@@ -3,9 +3,11 @@ use borrow.Author.Needs.{needs}
 use mathlib.Core.Path.{_∙_, ap}
 use native.Mathlib.Omega.{arith}
 use Rattle.exact.specs.Rounding.{up}
+use Rattle.exact.specs.Trillion.{trillion}
 use Rattle.formulas.specs.Constants.{tera}
 use Rattle.formulas.specs.Skin.{skinRatio}
 use Rattle.formulas.specs.Laws.Ranges.{skinReactance-most}
+use Rattle.formulas.specs.Bounds.{mostSkinReactance}
 use Rattle.stages.proofs.Quotients.{fits-up}
 use Prim.Native.Nat.{_*_, _≤_}
 use Rattle.stages.proofs.skin.skin_ratio.Statement.{statement}
@@ -13,7 +15,7 @@ use Rattle.stages.proofs.skin.skin_ratio.Tie as tie
 
 mul-div-up-requires : tie.Need-mul-div-up-requires
 mul-div-up-requires c κs =
-    let a≤ : c .skin-reactance .result ≤ 1633628179872 =
+    let a≤ : c .skin-reactance .result ≤ mostSkinReactance =
     omega (arith, skinReactance-most (c .before .pre .0) (c .before .pre .1), c .skin-reactance .ensures)
     in
     (omega arith, fits-up 45000000000000 (omega arith) (omega arith) tt)
@@ -22,7 +24,7 @@ returns : tie.Need-returns
 unfolding skinRatio tera
 returns c =
     c .mul-div-up .ensures
-    ∙ ap (λ a. up (a * 1000000000000) (c .before .before .args .rc)) (c .before .skin-reactance .ensures)
+    ∙ ap (λ a. up (a * trillion) (c .before .before .args .rc)) (c .before .skin-reactance .ensures)
 
 pub skin-ratio-spec : {M : Type 1} → statement M
 skin-ratio-spec = tie.close (tie.spec (λ c κs. search needs) mul-div-up-requires returns)

@@ -3,22 +3,17 @@ use borrow.Author.Needs.{needs}
 use mathlib.Core.Path.{sym}
 use native.Mathlib.Omega.{arith}
 use native.Mathlib.Nat.{mul-le-mul}
-use Rattle.exact.specs.Rounding.{up-code}
+use Rattle.exact.specs.Laws.Rounding.{up-code}
 use Rattle.formulas.specs.Constants.{piHigh}
 use Rattle.formulas.specs.Skin.{skinReactance}
 use Prim.Native.Nat.{_*_}
 use Rattle.stages.proofs.skin.skin_reactance.Statement.{statement}
 use Rattle.stages.proofs.skin.skin_reactance.Tie as tie
 
-mul-result-2 : tie.Need-mul-result-2
-mul-result-2 c = omega (arith, mul-le-mul (c .pre .0) (c .pre .1))
-
-add-result : tie.Need-add-result
-add-result c = omega (arith, mul-le-mul (c .pre .0) (c .pre .1))
-
-returns : tie.Need-returns
-unfolding skinReactance piHigh
-returns c = sym (up-code (c .args .f * 31415926536 * c .args .k) 125000)
-
 pub skin-reactance-spec : {M : Type 1} → statement M
-skin-reactance-spec = tie.close (tie.spec (λ c. search needs) mul-result-2 add-result returns)
+unfolding skinReactance piHigh
+skin-reactance-spec =
+    tie.close
+    (tie.spec (λ c. search needs) (λ c. omega (arith, mul-le-mul (c .pre .0) (c .pre .1)))
+    (λ c. omega (arith, mul-le-mul (c .pre .0) (c .pre .1)))
+    (λ c. sym (up-code (c .args .f * 31415926536 * c .args .k) 125000)))

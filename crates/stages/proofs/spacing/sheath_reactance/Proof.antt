@@ -4,16 +4,14 @@ use native.Mathlib.Nat.{mul-le-mul}
 use lib.Dec.{lit<}
 use Rattle.formulas.specs.Constants.{tera}
 use Rattle.formulas.specs.Spacing.{sheathReactance}
+use Rattle.formulas.specs.Bounds.{mostSheathReactance}
 use Rattle.stages.proofs.Quotients.{fits-up}
 use Rattle.stages.proofs.spacing.sheath_reactance.Statement.{statement}
 use Rattle.stages.proofs.spacing.sheath_reactance.Tie as tie
 
-mul-div-up-trillion-requires : tie.Need-mul-div-up-trillion-requires
-mul-div-up-trillion-requires c κs = fits-up 15200000000000 (lit< tt) (omega (arith, mul-le-mul (c .pre .0) (c .pre .1))) tt
-
-returns : tie.Need-returns
-unfolding sheathReactance tera
-returns c = c .mul-div-up-trillion .ensures
-
 pub sheath-reactance-spec : {M : Type 1} → statement M
-sheath-reactance-spec = tie.close (tie.spec mul-div-up-trillion-requires returns)
+unfolding sheathReactance tera
+sheath-reactance-spec =
+    tie.close
+    (tie.spec (λ c κs. fits-up mostSheathReactance (lit< tt) (omega (arith, mul-le-mul (c .pre .0) (c .pre .1))) tt)
+    (λ c. c .mul-div-up-trillion .ensures))

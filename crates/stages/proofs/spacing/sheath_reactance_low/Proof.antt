@@ -4,16 +4,14 @@ use native.Mathlib.Nat.{mul-le-mul}
 use lib.Dec.{lit<}
 use Rattle.formulas.specs.Constants.{tera}
 use Rattle.formulas.specs.Spacing.{sheathReactanceLow}
+use Rattle.formulas.specs.Bounds.{mostSheathReactance}
 use Rattle.stages.proofs.Quotients.{fits-down}
 use Rattle.stages.proofs.spacing.sheath_reactance_low.Statement.{statement}
 use Rattle.stages.proofs.spacing.sheath_reactance_low.Tie as tie
 
-mul-div-down-trillion-requires : tie.Need-mul-div-down-trillion-requires
-mul-div-down-trillion-requires c κs = fits-down 15200000000000 (lit< tt) (omega (arith, mul-le-mul (c .pre .0) (c .pre .1))) tt
-
-returns : tie.Need-returns
-unfolding sheathReactanceLow tera
-returns c = c .mul-div-down-trillion .ensures
-
 pub sheath-reactance-low-spec : {M : Type 1} → statement M
-sheath-reactance-low-spec = tie.close (tie.spec mul-div-down-trillion-requires returns)
+unfolding sheathReactanceLow tera
+sheath-reactance-low-spec =
+    tie.close
+    (tie.spec (λ c κs. fits-down mostSheathReactance (lit< tt) (omega (arith, mul-le-mul (c .pre .0) (c .pre .1))) tt)
+    (λ c. c .mul-div-down-trillion .ensures))

@@ -13,15 +13,6 @@ have-room s = have-below (s .args .u) (s .args .next) (s .args .v) (s .pre)
 owed-room : (s : tie.Start) → owed (s .args .u) (s .args .v) < 2 ^ 64
 owed-room s = owed-fits (s .args .u) (s .args .next) (s .args .v) (s .pre)
 
-mul-have : tie.Need-mul-have
-mul-have c = omega (arith, have-room c)
-
-add-have : tie.Need-add-have
-add-have c = omega (arith, have-room c)
-
-mul-owed : tie.Need-mul-owed
-mul-owed c = record { fits = owed-room c }
-
 two-less : tie.Need-sub-t12
 two-less c =
     let s = c .before .before in
@@ -51,18 +42,6 @@ returns-2 c =
 pub digit-spec : {M : Type 1} → statement M
 digit-spec =
     tie.close
-    (tie.spec
-    (λ c. search needs)
-    (λ c. search needs)
-    mul-have
-    add-have
-    mul-owed
-    (λ c κs. search needs)
-    two-less
-    (λ c. search needs)
-    (λ c. search needs)
-    returns
-    (λ c κs. search needs)
-    sign-less
-    (λ c κs. search needs)
-    returns-2)
+    (tie.spec (λ c. search needs) (λ c. search needs) (λ c. omega (arith, have-room c))
+    (λ c. omega (arith, have-room c)) (λ c. record { fits = owed-room c }) (λ c κs. search needs) two-less
+    (λ c. search needs) (λ c. search needs) returns (λ c κs. search needs) sign-less (λ c κs. search needs) returns-2)

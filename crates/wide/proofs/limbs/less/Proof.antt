@@ -7,13 +7,9 @@ use Rattle.wide.proofs.TwoLimbs.{lower-decide, upper-decide}
 use Rattle.wide.proofs.limbs.less.Statement.{statement}
 use Rattle.wide.proofs.limbs.less.Tie as tie
 
-returns : tie.Need-returns
-unfolding value
-returns c = lower-decide _ _ _ _ (2 ^ 64) (c .before .before .if1 .taken)
-
-returns-2 : tie.Need-returns-2
-unfolding value
-returns-2 c = upper-decide _ _ _ _ (2 ^ 64) (c .before .before .if1 .left) (omega arith) (omega arith)
-
 pub less-spec : {M : Type 1} → statement M
-less-spec = tie.close (tie.spec returns returns-2)
+unfolding value
+less-spec =
+    tie.close
+    (tie.spec (λ c. lower-decide _ _ _ _ (2 ^ 64) (c .before .before .if1 .taken))
+    (λ c. upper-decide _ _ _ _ (2 ^ 64) (c .before .before .if1 .left) (omega arith) (omega arith)))

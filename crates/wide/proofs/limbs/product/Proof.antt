@@ -24,46 +24,11 @@ room c =
       high-high = halves (omega arith) (omega arith);
     }
 
-mul-first : tie.Need-mul-first
-mul-first c = let r = room c in omega arith
-
-mul-second : tie.Need-mul-second
-mul-second c = let r = room c in omega arith
-
-add-second : tie.Need-add-second
-add-second c = let r = room c in omega arith
-
-mul-third : tie.Need-mul-third
-mul-third c = let r = room c in omega arith
-
-add-third : tie.Need-add-third
-add-third c = let r = room c in omega arith
-
-mul-t10 : tie.Need-mul-t10
-mul-t10 c = let r = room c in omega arith
-
-add-t12 : tie.Need-add-t12
-add-t12 c = let r = room c in omega arith
-
-add-t14 : tie.Need-add-t14
-add-t14 c = let r = room c in omega arith
-
-returns : tie.Need-returns
-unfolding value
-returns c = columns 4294967296 (c .args .a) (c .args .b)
-
 pub product-spec : {M : Type 1} → statement M
+unfolding value
 product-spec =
     tie.close
-    (tie.spec
-    mul-first
-    mul-second
-    add-second
-    mul-third
-    add-third
-    mul-t10
-    add-t12
-    add-t14
-    (λ c. search needs)
-    (λ c. search needs)
-    returns)
+    (tie.spec (λ c. omega (arith, room c)) (λ c. omega (arith, room c)) (λ c. omega (arith, room c))
+    (λ c. omega (arith, room c)) (λ c. omega (arith, room c)) (λ c. omega (arith, room c))
+    (λ c. omega (arith, room c)) (λ c. omega (arith, room c)) (λ c. search needs) (λ c. search needs)
+    (λ c. columns 4294967296 (c .args .a) (c .args .b)))

@@ -25,9 +25,9 @@ add-t5 : tie.Need-add-t5
 unfolding value
 add-t5 c = record { fits = upper _ _ _ _ _ (2 ^ 64) (c .before .before .product .ensures) (c .before .before .before .pre) }
 
-returns : tie.Need-returns
-unfolding value
-returns c = gathered _ _ _ _ _ (2 ^ 64) (c .before .before .product .ensures)
-
 pub scaled-spec : {M : Type 1} → statement M
-scaled-spec = tie.close (tie.spec (λ c κs. search needs) mul-t4 add-t5 returns)
+unfolding value
+scaled-spec =
+    tie.close
+    (tie.spec (λ c κs. search needs) mul-t4 add-t5
+    (λ c. gathered _ _ _ _ _ (2 ^ 64) (c .before .before .product .ensures)))

@@ -16,21 +16,13 @@ add-t5 : tie.Need-add-t5
 unfolding value
 add-t5 c = omega (arith, carried 0 _ _ _ _ (2 ^ 64) (c .before .before .before .before .before .pre) (omega arith))
 
-returns : tie.Need-returns
-unfolding value
-returns c = omega arith
-
 add-t8 : tie.Need-add-t8
 unfolding value
 add-t8 c = record { fits = carried 1 _ _ _ _ (2 ^ 64) (c .before .before .before .before .before .pre) (omega arith) }
 
-add-t7 : tie.Need-add-t7
-add-t7 c = omega (arith, add-t8 c)
-
-returns-2 : tie.Need-returns-2
-unfolding value
-returns-2 c = omega arith
-
 pub sum-spec : {M : Type 1} → statement M
+unfolding value
 sum-spec =
-    tie.close (tie.spec (λ c. search needs) add-t5 (λ c. search needs) returns add-t7 add-t8 (λ c. search needs) (λ c. search needs) returns-2)
+    tie.close
+    (tie.spec (λ c. search needs) add-t5 (λ c. search needs) (λ c. omega arith) (λ c. omega (arith, add-t8 c)) add-t8
+    (λ c. search needs) (λ c. search needs) (λ c. omega arith))

@@ -3,13 +3,10 @@ use Prim.Native.Nat.{_^_}
 use native.Mathlib.Nat.{mod-lt}
 use borrow.Author.Needs.{needs}
 use Rattle.wide.specs.Limbs.{value}
-use Rattle.wide.specs.Split.{divided}
+use Rattle.wide.specs.Laws.Split.{divided}
 use Rattle.wide.proofs.LongDivision.{two-digits}
 use Rattle.wide.proofs.quotient.divided.Statement.{statement}
 use Rattle.wide.proofs.quotient.divided.Tie as tie
-
-divide-requires : tie.Need-divide-requires
-divide-requires c κs = mod-lt _ (c .before .pre)
 
 returns : tie.Need-returns
 unfolding value
@@ -18,4 +15,5 @@ returns c =
     two-digits (at-start .args .w .lo) (2 ^ 64) (divided (at-start .args .w .hi) (at-start .pre)) (c .before .divide .ensures)
 
 pub divided-spec : {M : Type 1} → statement M
-divided-spec = tie.close (tie.spec (λ c. search needs) divide-requires (λ c. search needs) returns)
+divided-spec =
+    tie.close (tie.spec (λ c. search needs) (λ c κs. mod-lt _ (c .before .pre)) (λ c. search needs) returns)

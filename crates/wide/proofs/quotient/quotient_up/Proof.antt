@@ -7,7 +7,7 @@ use lib.Arith.{digits-lt}
 use lib.Dec.{lit≤}
 use borrow.Author.Needs.{needs}
 use Rattle.wide.specs.Limbs.{value}
-use Rattle.wide.specs.Split.{split-up, split-more, upward-none, upward-some}
+use Rattle.wide.specs.Laws.Split.{split-up, split-more, upward-none, upward-some}
 use Rattle.wide.proofs.quotient.quotient_up.Statement.{statement}
 use Rattle.wide.proofs.quotient.quotient_up.Tie as tie
 

@@ -4,7 +4,8 @@ use mathlib.Core.Path.{subst}
 use Prim.Native.Nat.{ℕ, _^_}
 use borrow.Author.Needs.{needs}
 use Rattle.wide.specs.Limbs.{value}
-use Rattle.wide.specs.Split.{Split, high-below}
+use Rattle.wide.specs.Split.{Split}
+use Rattle.wide.specs.Laws.Split.{high-below}
 use Rattle.wide.proofs.ratio.mul_div.Statement.{statement}
 use Rattle.wide.proofs.ratio.mul_div.Tie as tie
 

@@ -3,19 +3,14 @@
 use mathlib.Core.Path.{sym, subst, _∙_}
 use Prim.Native.Nat.{ℕ, _^_, _<_}
 use native.Mathlib.Nat.{lt-of-le-of-lt}
-use Rattle.exact.specs.Rounding.{down-le-up}
-use Rattle.wide.specs.Split.{split-up}
+use Rattle.exact.specs.Laws.Rounding.{down-le-up}
+use Rattle.wide.specs.Laws.Split.{split-up}
 use Rattle.wide.proofs.ratio.mul_div_up.Statement.{statement}
 use Rattle.wide.proofs.ratio.mul_div_up.Tie as tie
 
-mul-div-requires : tie.Need-mul-div-requires
-mul-div-requires c κs = (c .pre .0, lt-of-le-of-lt (down-le-up _ (c .pre .0)) (c .pre .1))
-
-rounded-up-requires : tie.Need-rounded-up-requires
-rounded-up-requires c κs = subst (λ (n : ℕ). n < 2 ^ 64) (sym (split-up (c .mul-div .ensures))) (c .before .pre .1)
-
-returns : tie.Need-returns
-returns c = c .rounded-up .ensures ∙ split-up (c .before .mul-div .ensures)
-
 pub mul-div-up-spec : {M : Type 1} → statement M
-mul-div-up-spec = tie.close (tie.spec mul-div-requires rounded-up-requires returns)
+mul-div-up-spec =
+    tie.close
+    (tie.spec (λ c κs. (c .pre .0, lt-of-le-of-lt (down-le-up _ (c .pre .0)) (c .pre .1)))
+    (λ c κs. subst (λ (n : ℕ). n < 2 ^ 64) (sym (split-up (c .mul-div .ensures))) (c .before .pre .1))
+    (λ c. c .rounded-up .ensures ∙ split-up (c .before .mul-div .ensures)))

@@ -13,21 +13,9 @@ scaled-down p n h = let less : p / n ≤ p = div-le-self p n in (omega arith, om
 returns : tie.Need-returns
 returns c = scaled-down (c .point .result) _ (c .point .ensures)
 
-add-result-2 : tie.Need-add-result-2
-add-result-2 c = record { fits = lt-trans (returns c .1) (lit< tt) }
-
 pub guess-spec : {M : Type 1} → statement M
 guess-spec =
     tie.close
-    (tie.spec
-    (λ c κs. search needs)
-    (λ c. search needs)
-    (λ c. search needs)
-    (λ c. search needs)
-    (λ c κs. search needs)
-    (λ c κs. search needs)
-    (λ c. search needs)
-    (λ c. search needs)
-    (λ c. search needs)
-    add-result-2
-    returns)
+    (tie.spec (λ c κs. search needs) (λ c. search needs) (λ c. search needs) (λ c. search needs)
+    (λ c κs. search needs) (λ c κs. search needs) (λ c. search needs) (λ c. search needs) (λ c. search needs)
+    (λ c. record { fits = lt-trans (returns c .1) (lit< tt) }) returns)

@@ -22,21 +22,12 @@ rise-below p right = omega (arith, bulge-below p right)
 risen-below : (p right : ℕ) → right < 65536 → rise p right * right ≤ 2097152 * 65536
 risen-below p right h = mul-le-mul {n₂ = 2097152} {m₂ = 65536} (rise-below p right) (omega arith)
 
-mul-bulge : tie.Need-mul-bulge
-mul-bulge c = omega (arith, bulge-below (c .args .p) (c .args .right))
-
-add-rise : tie.Need-add-rise
-add-rise c = omega (arith, rise-below (c .args .p) (c .args .right))
-
-mul-result-2 : tie.Need-mul-result-2
-mul-result-2 c = omega (arith, risen-below (c .args .p) (c .args .right) (c .pre))
-
 returns : tie.Need-returns
 returns c = omega (arith, risen-below (c .args .p) (c .args .right) (c .pre))
 
-add-result : tie.Need-add-result
-add-result c = omega (arith, returns c)
-
 pub point-spec : {M : Type 1} → statement M
 point-spec =
-    tie.close (tie.spec (λ c. search needs) mul-bulge add-rise (λ c. search needs) mul-result-2 add-result returns)
+    tie.close
+    (tie.spec (λ c. search needs) (λ c. omega (arith, bulge-below (c .args .p) (c .args .right)))
+    (λ c. omega (arith, rise-below (c .args .p) (c .args .right))) (λ c. search needs)
+    (λ c. omega (arith, risen-below (c .args .p) (c .args .right) (c .pre))) (λ c. omega (arith, returns c)) returns)

@@ -14,37 +14,16 @@ Inv-loop x r₀ r = (r < 4294967296) × (x < (r + 1) * (r + 1))
 abbrev μ-loop : tie.MeasureT-loop
 μ-loop x r₀ r = r
 
-mul-loop : tie.Need-mul-loop Inv-loop μ-loop
-mul-loop c = omega (arith, halves (c .loop .inv .0) (c .loop .inv .0))
-
 loop-less : tie.Need-loop-less Inv-loop μ-loop
 loop-less c = step-below _ _ (c .loop-test .taken)
 
 div-r : tie.Need-div-r Inv-loop μ-loop
 div-r c = omega (arith, loop-less c)
 
-add-r : tie.Need-add-r Inv-loop μ-loop
-add-r c = omega (arith, loop-less c)
-
-loop-again : tie.Need-loop-again Inv-loop μ-loop
-loop-again c = (omega (arith, loop-less c), step-above _ _ (div-r c))
-
-returns-2 : tie.Need-returns-2 Inv-loop μ-loop
-returns-2 c = (c .loop-test .left, c .before .loop .inv .1)
-
 pub root-spec : {M : Type 1} → statement M
 root-spec =
     tie.close
-    (tie.spec
-    Inv-loop
-    μ-loop
-    (λ c. search needs)
-    (λ c κs. search needs)
-    (λ c κs. search needs)
-    (λ c. search needs)
-    mul-loop
-    div-r
-    add-r
-    loop-less
-    loop-again
-    returns-2)
+    (tie.spec Inv-loop μ-loop (λ c. search needs) (λ c κs. search needs) (λ c κs. search needs) (λ c. search needs)
+    (λ c. omega (arith, halves (c .loop .inv .0) (c .loop .inv .0))) div-r (λ c. omega (arith, loop-less c)) loop-less
+    (λ c. (omega (arith, loop-less c), step-above _ _ (div-r c)))
+    (λ c. record { below = c .loop-test .left; above = c .before .loop .inv .1 }))

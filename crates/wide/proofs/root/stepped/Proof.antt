@@ -13,8 +13,8 @@ add-r c =
     let q = c .args .x / c .args .g in
     omega (arith, div-mul-le-self (c .args .x) (c .args .g), mul-le-mul-left {m = 2} {n = c .args .g} q (omega arith))
 
-returns-2 : tie.Need-returns-2
-returns-2 c = (omega arith, step-above (c .before .args .x) (c .before .args .g) (omega arith))
-
 pub stepped-spec : {M : Type 1} → statement M
-stepped-spec = tie.close (tie.spec (λ c. search needs) add-r (λ c. search needs) returns-2)
+stepped-spec =
+    tie.close
+    (tie.spec (λ c. search needs) add-r (λ c. search needs)
+    (λ c. (omega arith, step-above (c .before .args .x) (c .before .args .g) (omega arith))))

@@ -2,17 +2,16 @@
 -- omega multiplies out. Assumes nothing.
 use Prim.Native.Nat.{_^_}
 use native.Mathlib.Omega.{arith}
-use Rattle.wide.specs.Split.{divided-low}
+use Rattle.wide.specs.Laws.Split.{divided-low}
 use Rattle.wide.proofs.trillion.divide.Statement.{statement}
 use Rattle.wide.proofs.trillion.divide.Tie as tie
 
 returns : tie.Need-returns
 returns c = divided-low (c .before .args .hi) (c .before .args .lo) (2 ^ 64) (c .if1 .taken) (omega arith)
 
-returns-2 : tie.Need-returns-2
-returns-2 c = record { whole = omega arith; below = omega arith }
-
 pub divide-spec : {M : Type 1} → statement M
 divide-spec =
     tie.close
-    (tie.spec returns (λ c. omega arith) (λ c. omega arith) (λ c. omega arith) (λ c. omega arith) (λ c. omega arith) (λ c. omega arith) (λ c. omega arith) (λ c. omega arith) returns-2)
+    (tie.spec returns (λ c. omega arith) (λ c. omega arith) (λ c. omega arith) (λ c. omega arith) (λ c. omega arith)
+    (λ c. omega arith) (λ c. omega arith) (λ c. omega arith)
+    (λ c. record { whole = omega arith; below = omega arith }))

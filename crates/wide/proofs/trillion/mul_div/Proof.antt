@@ -4,8 +4,10 @@ use mathlib.Core.Path.{subst}
 use Prim.Native.Nat.{ℕ, _^_}
 use native.Mathlib.Omega.{arith}
 use borrow.Author.Needs.{needs}
+use Rattle.exact.specs.Trillion.{trillion}
 use Rattle.wide.specs.Limbs.{value}
-use Rattle.wide.specs.Split.{Split, high-below}
+use Rattle.wide.specs.Split.{Split}
+use Rattle.wide.specs.Laws.Split.{high-below}
 use Rattle.wide.proofs.trillion.mul_div.Statement.{statement}
 use Rattle.wide.proofs.trillion.mul_div.Tie as tie
 
@@ -18,7 +20,7 @@ returns : tie.Need-returns
 unfolding value
 returns c =
     let d = c .divide .result in
-    subst (λ (n : ℕ). Split n 1000000000000 (d .quotient) (d .rest)) (c .before .product .ensures) (c .divide .ensures)
+    subst (λ (n : ℕ). Split n trillion (d .quotient) (d .rest)) (c .before .product .ensures) (c .divide .ensures)
 
 pub mul-div-spec : {M : Type 1} → statement M
 mul-div-spec = tie.close (tie.spec (λ c κs. search needs) divide-requires returns)

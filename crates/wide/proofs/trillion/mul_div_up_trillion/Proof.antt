@@ -4,19 +4,14 @@ use mathlib.Core.Path.{sym, subst, _∙_}
 use Prim.Native.Nat.{ℕ, _^_, _<_}
 use native.Mathlib.Nat.{lt-of-le-of-lt}
 use native.Mathlib.Omega.{arith}
-use Rattle.exact.specs.Rounding.{down-le-up}
-use Rattle.wide.specs.Split.{split-up}
+use Rattle.exact.specs.Laws.Rounding.{down-le-up}
+use Rattle.wide.specs.Laws.Split.{split-up}
 use Rattle.wide.proofs.trillion.mul_div_up_trillion.Statement.{statement}
 use Rattle.wide.proofs.trillion.mul_div_up_trillion.Tie as tie
 
-mul-div-requires : tie.Need-mul-div-requires
-mul-div-requires c κs = lt-of-le-of-lt (down-le-up _ (omega arith)) (c .pre)
-
-rounded-up-requires : tie.Need-rounded-up-requires
-rounded-up-requires c κs = subst (λ (n : ℕ). n < 2 ^ 64) (sym (split-up (c .mul-div .ensures))) (c .before .pre)
-
-returns : tie.Need-returns
-returns c = c .rounded-up .ensures ∙ split-up (c .before .mul-div .ensures)
-
 pub mul-div-up-trillion-spec : {M : Type 1} → statement M
-mul-div-up-trillion-spec = tie.close (tie.spec mul-div-requires rounded-up-requires returns)
+mul-div-up-trillion-spec =
+    tie.close
+    (tie.spec (λ c κs. lt-of-le-of-lt (down-le-up _ (omega arith)) (c .pre))
+    (λ c κs. subst (λ (n : ℕ). n < 2 ^ 64) (sym (split-up (c .mul-div .ensures))) (c .before .pre))
+    (λ c. c .rounded-up .ensures ∙ split-up (c .before .mul-div .ensures)))

@@ -1,4 +1,4 @@
--- Document 01, 'Values at the edges': the starred ones, as one theorem. Each is computed from the definition or the table that the
+-- The starred values at the edges of docs/CLAIMS.md, as one theorem. Each is computed from the definition or the table that the
 -- rating uses. Assumes nothing.
 use mathlib.Core.Path.{_≡_, refl}
 use mathlib.Core.Bool.{Bool, true, false}
@@ -6,29 +6,13 @@ use Prim.Native.Nat.{ℕ, _*_}
 use lib.IntN.{pos, negℤ}
 use Rattle.exact.specs.Rounding.{up, down}
 use Rattle.exact.specs.Root.{root}
-use Rattle.formulas.specs.Tables.{
-  ksTable,
-  kpTable,
-  metalTable,
-  entry,
-  ks,
-  kp,
-  coefficient,
-  conductorMetal,
-}
+use Rattle.formulas.specs.Tables.{ks, kp, coefficient, conductorMetal}
 use Rattle.formulas.specs.Constants.{tera, piLow, piHigh, ln2Low, ln2High}
 use Rattle.formulas.specs.Resistance.{temperatureFactor, resistance}
 use Rattle.formulas.specs.Reactance.{reactance, reactanceLow}
 use Rattle.formulas.specs.Skin.{skinReactance, skinRatio, factor}
 use Rattle.formulas.specs.Proximity.{spacingRatio}
-use Rattle.formulas.specs.Logarithm.{
-  octaves,
-  doubled,
-  firstPower,
-  thirteenTerms,
-  logLow,
-  logHigh,
-}
+use Rattle.formulas.specs.Logarithm.{octaves, doubled, firstPower, thirteenTerms, logLow, logHigh}
 use Rattle.formulas.specs.Sheath.{bondRatio, bondRatioSquared, circulatingLoss}
 use Rattle.formulas.specs.Rating.{rating}
 use Rattle.formulas.specs.Refusals.{skinRefused, eddyRefused, dielectricRefused}
@@ -58,10 +42,9 @@ pub record Starred : Type 0 where
   pub I-less : rating 49999999999 500000000000 ≡ 999999
 
 pub starred : Starred
-unfolding up down root ksTable kpTable metalTable entry ks kp coefficient conductorMetal tera piLow piHigh ln2Low ln2High
-    temperatureFactor resistance reactance reactanceLow skinReactance skinRatio factor spacingRatio octaves doubled
-    firstPower thirteenTerms logLow logHigh bondRatio bondRatioSquared circulatingLoss rating skinRefused eddyRefused
-    dielectricRefused
+unfolding up down root conductorMetal tera piLow piHigh ln2Low ln2High temperatureFactor resistance reactance reactanceLow
+    skinReactance skinRatio factor spacingRatio octaves doubled firstPower thirteenTerms logLow logHigh bondRatio
+    bondRatioSquared circulatingLoss rating skinRefused eddyRefused dielectricRefused
 starred =
     record {
       B = refl;

@@ -1,4 +1,4 @@
--- `wide::division::long` meets its contract: the shifted number over the shifted divisor, in two digits, is the quotient of
+-- `wide::division::long_division` meets its contract: the shifted number over the shifted divisor, in two digits, is the quotient of
 -- the numbers as they were. Assumes nothing.
 use mathlib.Core.Path.{_≡_, sym, ap, subst, _∙_}
 use Prim.Native.Nat.{ℕ, _+_, _-_, _*_, _/_, _%_, _^_, _≤_, _<_}
@@ -6,10 +6,11 @@ use native.Mathlib.Nat.{mul-le-mul-right, mul-div-mul-right, div-div-eq-div-mul}
 use native.Mathlib.Omega.{arith}
 use lib.Pow.{pow-pos, pow-add}
 use borrow.Author.Needs.{needs}
+use Rattle.wide.specs.Shift.{IsShift}
 use Rattle.wide.specs.Split.{Split}
 use Rattle.wide.proofs.LongDivision.{one-limb, shifted-is, shifted-below, long-is}
-use Rattle.wide.proofs.division.long.Statement.{statement}
-use Rattle.wide.proofs.division.long.Tie as tie
+use Rattle.wide.proofs.division.long_division.Statement.{statement}
+use Rattle.wide.proofs.division.long_division.Tie as tie
 
 -- the bits of l that a shift by s moves out, taken by a shift the other way
 moved-out : (l s : ℕ) → s < 64 → l / 2 / 2 ^ (63 - s) ≡ l * 2 ^ s / 2 ^ 64
@@ -25,9 +26,9 @@ moved-out l s s<64 =
 abbrev top : ℕ → ℕ → ℕ → ℕ
 top h l s = h * 2 ^ s % 2 ^ 64 + l / 2 / 2 ^ (63 - s)
 
-module _ (h l c s : ℕ) (h<c : h < c) (l< : l < 2 ^ 64) (s< : (s < 64) × (2 ^ 63 ≤ c * 2 ^ s) × (c * 2 ^ s < 2 ^ 64)) where
+module _ (h l c s : ℕ) (h<c : h < c) (l< : l < 2 ^ 64) (shift : IsShift c s) where
   top-is : h * 2 ^ s + l * 2 ^ s / 2 ^ 64 ≡ top h l s
-  top-is = omega (arith, moved-out l s (s< .0), mul-le-mul-right {m = h} {n = c} (2 ^ s) (omega arith))
+  top-is = omega (arith, moved-out l s (shift .small), mul-le-mul-right {m = h} {n = c} (2 ^ s) (omega arith))
 
   top-below : top h l s < c * 2 ^ s
   top-below = subst (λ (x : ℕ). x < c * 2 ^ s) top-is (shifted-below h l c (2 ^ s) (2 ^ 64) (pow-pos s) h<c l<)
@@ -42,12 +43,6 @@ u-below : (c : tie.After-shift-of) →
 u-below c =
     let a = c .before .args in
     top-below (a .hi) (a .lo) (a .c) (c .shift-of .result) (c .before .pre) (omega arith) (c .shift-of .ensures)
-
-add-u : tie.Need-add-u
-add-u c = omega (arith, u-below c)
-
-digit-requires : tie.Need-digit-requires
-digit-requires c κs = let below = u-below c in (omega arith, omega arith, omega arith)
 
 answer : (c : tie.After-digit2) →
     let a = c .before .before .before .args in
@@ -69,34 +64,12 @@ quotient-fits c =
     let at-start = c .before .before .before in
     one-limb (at-start .args .hi) (at-start .args .lo) (at-start .pre) (omega arith) (answer c)
 
-mul-t15 : tie.Need-mul-t15
-mul-t15 c = omega (arith, quotient-fits (c .before))
-
-add-t10 : tie.Need-add-t10
-add-t10 c = record { fits = quotient-fits (c .before .before) }
-
-returns : tie.Need-returns
-returns c = answer (c .before .before .before)
-
-pub long-spec : {M : Type 1} → statement M
-long-spec =
+pub long-division-spec : {M : Type 1} → statement M
+long-division-spec =
     tie.close
-    (tie.spec
-    (λ c κs. search needs)
-    (λ c. search needs)
-    (λ c. search needs)
-    (λ c. search needs)
-    (λ c. search needs)
-    (λ c. search needs)
-    (λ c. search needs)
-    (λ c. search needs)
-    add-u
-    (λ c. search needs)
-    (λ c. search needs)
-    digit-requires
-    (λ c κs. search needs)
-    mul-t15
-    add-t10
-    (λ c. search needs)
-    (λ c. search needs)
-    returns)
+    (tie.spec (λ c κs. search needs) (λ c. search needs) (λ c. search needs) (λ c. search needs) (λ c. search needs)
+    (λ c. search needs) (λ c. search needs) (λ c. search needs) (λ c. omega (arith, u-below c)) (λ c. search needs)
+    (λ c. search needs) (λ c κs. let below = u-below c in (omega arith, omega arith, omega arith))
+    (λ c κs. search needs) (λ c. omega (arith, quotient-fits (c .before)))
+    (λ c. record { fits = quotient-fits (c .before .before) }) (λ c. search needs) (λ c. search needs)
+    (λ c. answer (c .before .before .before)))

@@ -1,13 +1,13 @@
 -- Closed values that the starred ones leave out, as one theorem: both tables row by row, one three-core SL cable from its fields to
 -- its rating, and the sheath of the other arrangements. They were not copied from the definitions: the tables are those of the
--- standard's pages, and the numbers are what the Rust program `values` under twin/, written from document 01, prints. The gate
+-- standard's pages, and the numbers are what the Rust program `values` under twin/, written apart from the crates, prints. The gate
 -- compares the two. Assumes nothing.
 use mathlib.Core.Path.{_≡_, refl}
 use mathlib.Core.List.{[], _∷_, map}
 use lib.IntN.{pos, negℤ}
 use Rattle.exact.specs.Rounding.{up, down}
 use Rattle.exact.specs.Root.{root}
-use Rattle.formulas.specs.Tables.{ksTable, kpTable, metalTable, entry, ks, kp, coefficient, conductorMetal}
+use Rattle.formulas.specs.Tables.{ks, kp, coefficient, conductorMetal}
 use Rattle.formulas.specs.Constants.{tera, piLow, piHigh, ln2Low, ln2High, ln2ThirdLow, ln2ThirdHigh}
 use Rattle.formulas.specs.Resistance.{temperatureFactor, resistance}
 use Rattle.formulas.specs.Skin.{skinReactance, skinRatio, skinRatioSquared, factor, skinFactor}
@@ -29,7 +29,7 @@ use Rattle.formulas.specs.Sheath.{
 use Rattle.formulas.specs.Armour.{
   armourRatio,
   armourRatioSquared,
-  armourResistance,
+  reducedArmourResistance,
   unscreenedLoss,
   screeningRatioSquared,
   screenedLoss,
@@ -86,7 +86,7 @@ pub record Recomputed : Type 0 where
   -- stage 8, before and after its screening
   pub y : armourRatio 2893750000000 628318530720 ≡ 2551472575801
   pub y2 : armourRatioSquared 2551472575801 ≡ 6510012305064
-  pub r : armourResistance 2893750000000 628318530720 ≡ 385318942561
+  pub r : reducedArmourResistance 2893750000000 628318530720 ≡ 385318942561
   pub W-before-screening : unscreenedLoss 2893750000000 628318530720 2500 11000 ≡ 97921962676
   pub W : armourLoss 2893750000000 628318530720 2500 11000 466172982309 11600000000000 ≡ 97764071631
   -- stage 9
@@ -100,11 +100,11 @@ pub record Recomputed : Type 0 where
   pub I : rating 69442058483 3323443717554 ≡ 457106
 
 pub recomputed : Recomputed
-unfolding up down root ksTable kpTable metalTable entry ks kp coefficient conductorMetal tera piLow piHigh ln2Low ln2High
-    ln2ThirdLow ln2ThirdHigh temperatureFactor resistance skinReactance skinRatio skinRatioSquared factor skinFactor
-    spacingRatio proximityH proximityG proximityFactor acResistance octaves doubled firstPower thirteenTerms logLow
-    logHigh spacingLogHigh spacingLogLow sheathReactance sheathReactanceLow bondRatio bondRatioSquared circulatingLoss
-    threeHalves slLoss eddyRatio eddyRatioSquared eddyFactor eddySpacing eddyLoss armourRatio armourRatioSquared armourResistance
+unfolding up down root conductorMetal tera piLow piHigh ln2Low ln2High ln2ThirdLow ln2ThirdHigh temperatureFactor resistance
+    skinReactance skinRatio skinRatioSquared factor skinFactor spacingRatio proximityH proximityG proximityFactor
+    acResistance octaves doubled firstPower thirteenTerms logLow logHigh spacingLogHigh spacingLogLow
+    sheathReactance sheathReactanceLow bondRatio bondRatioSquared circulatingLoss threeHalves slLoss eddyRatio
+    eddyRatioSquared eddyFactor eddySpacing eddyLoss armourRatio armourRatioSquared reducedArmourResistance
     unscreenedLoss screeningRatioSquared screenedLoss armourLoss dielectricLoss dielectricResistance dielectricRise
     permittedRise currentRise unitRise rating
 recomputed =

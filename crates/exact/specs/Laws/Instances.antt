@@ -2,9 +2,8 @@
 use mathlib.Core.Path.{_≡_, refl}
 use Prim.Native.Nat.{ℕ, _+_, _*_, _≤_, _<_}
 use lib.Dec.{lit<, lit≤}
-use Rattle.exact.specs.Rounding.{
-  up,
-  down,
+use Rattle.exact.specs.Rounding.{up, down}
+use Rattle.exact.specs.Laws.Rounding.{
   up-above,
   up-close,
   up-only,
@@ -25,11 +24,32 @@ use Rattle.exact.specs.Rounding.{
   up-pos,
   up-up,
 }
-use Rattle.exact.specs.Root.{IsRoot, root-only, square-cancel-<}
-use Rattle.exact.specs.Fraction.{_over_, whole, _+F_, _*F_, _/F_, reciprocal, _≤F_, _<F_, _≃F_, ≃F-refl, ≤F-refl, ≤F-trans, <F-≤F-trans, ≤F-<F-trans, <F→≤F, ≃F→≤F, ≃F-sym, +F-mono, +F-mono-<, *F-mono, *F-mono-<, reciprocal-anti, *F-+F, over≤up, up<over, down≤over, over<down}
-use Rattle.exact.specs.Error.{
-  parts,
-  Within,
+use Rattle.exact.specs.Root.{IsRoot}
+use Rattle.exact.specs.Laws.Root.{root-only, square-cancel-<}
+use Rattle.exact.specs.Fraction.{_over_, whole, _+F_, _*F_, _/F_, reciprocal, _≤F_, _<F_, _≃F_}
+use Rattle.exact.specs.Laws.Fraction.{
+  closed≤,
+  ≃F-refl,
+  ≤F-refl,
+  ≤F-trans,
+  <F-≤F-trans,
+  ≤F-<F-trans,
+  <F→≤F,
+  ≃F→≤F,
+  ≃F-sym,
+  +F-mono,
+  +F-mono-<,
+  *F-mono,
+  *F-mono-<,
+  reciprocal-anti,
+  *F-+F,
+  over≤up,
+  up<over,
+  down≤over,
+  over<down,
+}
+use Rattle.exact.specs.Error.{parts, Within}
+use Rattle.exact.specs.Laws.Error.{
   within-refl,
   within-weaken,
   within-trans,
@@ -39,14 +59,16 @@ use Rattle.exact.specs.Error.{
   within-product,
   within-reciprocal,
   within-saturate,
-  within-up,
-  within-down,
   within-relative-product,
   within-same,
   within-scale,
+  within-relative-reciprocal,
+}
+use Rattle.exact.specs.Laws.RoundingError.{
+  within-up,
+  within-down,
   within-round,
   within-round-down,
-  within-relative-reciprocal,
   within-up-after,
   within-up-over,
   within-round-over,
@@ -135,7 +157,7 @@ beneath : Within 0 (whole 1) (whole (down 7 3)) (7 over 3)
 beneath = within-down 7 (lit< tt)
 
 one≤two : whole 1 ≤F whole 2
-one≤two = record { left = lit< tt; right = lit< tt; across = lit≤ tt }
+one≤two = closed≤ tt
 
 errors :
     Within 0 (whole 0) (whole 1) (whole 1) × Within 5 (whole 2) (7 over 3) (whole (up 7 3))
@@ -153,15 +175,15 @@ errors = (
 -- 1 is at most 4 × 10^11 parts in 10^12 of 3
 absorbed : Within (0 + 400000000000) (whole 0) (7 over 3) (whole (up 7 3))
 unfolding up parts _*F_
-absorbed = within-absorb 400000000000 (record { left = lit< tt; right = lit< tt; across = lit≤ tt }) above
+absorbed = within-absorb 400000000000 (closed≤ tt) above
 
 multiplied :
     Within (0 + 0) (whole 1 *F whole 3 +F whole 1 *F whole 3) ((7 over 3) *F (7 over 3)) (whole (up 7 3) *F whole (up 7 3))
 unfolding up
 multiplied =
     within-product
-    (record { left = lit< tt; right = lit< tt; across = lit≤ tt })
-    (record { left = lit< tt; right = lit< tt; across = lit≤ tt })
+    (closed≤ tt)
+    (closed≤ tt)
     above
     above
 

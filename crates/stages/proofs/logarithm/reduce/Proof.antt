@@ -1,5 +1,5 @@
--- `stages::logarithm::octaves` meets its contract. The loop's invariant: `doubled` is b doubled `count` times, at most a, and above
--- `count`. So the count fits, and at the end it is the largest. Assumes nothing.
+-- `stages::logarithm::reduce` meets its contract. The loop's invariant: `doubled` is b doubled as often as counted, at most a, and
+-- above the count. So the count fits, and at the end it is the largest. Assumes nothing.
 use mathlib.Core.Path.{_≡_, ap, _∙_}
 use Prim.Native.Nat.{ℕ, _+_, _-_, _*_, _^_, _≤_, _<_}
 use native.Mathlib.Nat.{pow-suc}
@@ -7,8 +7,8 @@ use native.Mathlib.Numerals.{add-one}
 use native.Mathlib.Omega.{arith}
 use Rattle.formulas.specs.Logarithm.{octaves, doubled}
 use Rattle.formulas.specs.Laws.Octaves.{Largest, largest-only, octaves-largest}
-use Rattle.stages.proofs.logarithm.octaves.Statement.{statement}
-use Rattle.stages.proofs.logarithm.octaves.Tie as tie
+use Rattle.stages.proofs.logarithm.reduce.Statement.{statement}
+use Rattle.stages.proofs.logarithm.reduce.Tie as tie
 
 record Passed (a b count doubled : ℕ) : Type 0 where
   times : doubled ≡ 2 ^ count * b
@@ -29,10 +29,10 @@ count-is {a} {b} {count} b>0 b≤a p h =
     largest-only largest (octaves-largest a b b>0 b≤a)
 
 abbrev Inv-loop : tie.InvT-loop
-Inv-loop a b count₀ doubled₀ count doubled = Passed a b count doubled
+Inv-loop a b octaves₀ doubled₀ octaves doubled = Passed a b octaves doubled
 
 abbrev μ-loop : tie.MeasureT-loop
-μ-loop a b count₀ doubled₀ count doubled = a - doubled
+μ-loop a b octaves₀ doubled₀ octaves doubled = a - doubled
 
 loop-holds : tie.Need-loop-holds Inv-loop μ-loop
 loop-holds c = record { times = omega arith; below = omega arith; few = omega arith }
@@ -46,18 +46,11 @@ returns c =
     let start = c .before .before in
     let passed = c .before .loop .inv in
     let count = count-is (start .pre .0) (start .pre .1) passed (c .loop-test .left) in
-    (count, passed .times ∙ ap (λ k. 2 ^ k * start .args .b) count)
+    let twice : _ ≡ doubled (start .args .a) (start .args .b) = passed .times ∙ ap (λ k. 2 ^ k * start .args .b) count in
+    record { octaves-are = count; num-is = ap (λ d. start .args .a - d) twice; den-is = ap (λ d. start .args .a + d) twice }
 
-pub octaves-spec : {M : Type 1} → statement M
-octaves-spec =
+pub reduce-spec : {M : Type 1} → statement M
+reduce-spec =
     tie.close
-    (tie.spec
-    Inv-loop
-    μ-loop
-    loop-holds
-    (λ c. omega arith)
-    (λ c. omega arith)
-    (λ c. omega arith)
-    (λ c. omega arith)
-    loop-again
-    returns)
+    (tie.spec Inv-loop μ-loop loop-holds (λ c. omega arith) (λ c. omega arith) (λ c. omega arith) (λ c. omega arith)
+    loop-again (λ c. omega arith) (λ c. omega arith) returns)

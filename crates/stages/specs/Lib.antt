@@ -1,0 +1,2 @@
+-- What the contracts of this crate say beyond the definitions of `formulas`. Assumes nothing.
+pub mod Reduced

@@ -1,0 +1,2 @@
+-- What follows from the definitions of this crate. Assumes nothing.
+pub mod Split

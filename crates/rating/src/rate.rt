@@ -32,11 +32,19 @@ use stages::rating::unit_rise;
 use stages::tables::kp;
 use stages::tables::ks;
 
+// The largest z that refusal 8 lets pass, and the largest rating that 11 does, in mA.
+const SKIN_LIMIT: u64 = 7_840_000_000_000;
+
+const MOST_CURRENT: u64 = 5_000_000;
+
+// How many numbers the sheet has.
+pub const SHEET: usize = 13;
+
 // The answer, 0 or the refusal's number; the rating in mA; and the sheet: R', Rs, RA, B, ys, yp, R, X, S, W, Wd, dd, E.
 pub struct Rated {
     pub answer: u32,
     pub rating: u32,
-    pub sheet: [u64; 13],
+    pub sheet: [u64; SHEET],
 }
 
 fn refuse(number: u32) -> Rated
@@ -45,7 +53,7 @@ fn refuse(number: u32) -> Rated
     Rated {
         answer: number,
         rating: 0,
-        sheet: [0; 13],
+        sheet: [0; SHEET],
     }
 }
 
@@ -98,7 +106,7 @@ fn load(x: Case, p: Early) -> Rated
     let h = conductor(x, p.rc, p.zs, p.zp);
     let e = unit_rise_of(x, l.n, h.r, l.s, l.w);
     let i = current_of(x, permitted, dd, e);
-    if 5000000 < i {
+    if MOST_CURRENT < i {
         return refuse(11);
     }
     Rated {
@@ -130,7 +138,7 @@ fn judge(x: Case, eddies: bool) -> Rated
     let rc = conductor_resistance(x);
     let zs = skin_ratio_of(x, ks(x[CONDUCTOR]), rc);
     let zp = skin_ratio_of(x, kp(x[CONDUCTOR]), rc);
-    if (7840000000000 < zs) | (7840000000000 < zp) {
+    if (SKIN_LIMIT < zs) | (SKIN_LIMIT < zp) {
         return refuse(8);
     }
     let b = reactance_of(x);

@@ -4,23 +4,24 @@ use mathlib.Core.List.{List}
 use Prim.Native.Nat.{ℕ, _≤_}
 use lib.Dec.{lit<, lit≤}
 use Rattle.exact.specs.Fraction.{Fraction, whole}
-use Rattle.exact.specs.Laws.Fraction.{≤F-refl}
+use Rattle.exact.specs.Laws.Fraction.{whole-mono, ≤F-refl}
 use Rattle.exact.specs.Error.{Within}
 use Rattle.exact.specs.Laws.Error.{within-refl, within-weaken}
+use Rattle.formulas.specs.Bounds.{leastConductorResistance, mostAcResistance, mostArmourLoss, mostDielectricRise, mostSheathLoss}
 use Rattle.formulas.specs.Laws.Ranges.{In, dielectricRise-most}
 use Rattle.fields.specs.Fields as Field
 use Rattle.rating.specs.Chosen.{Chosen}
 use Rattle.rating.specs.Arrangement.{Numbers, Numbers*, Arrangement, alternating, alternating*}
 use Rattle.rating.specs.Laws.Fit.{Fit}
 use Rattle.rating.specs.Laws.Ranges.{R-range, Wd-most}
-use Rattle.rating.specs.Laws.Close.{at-most, R-close, dd-close}
+use Rattle.rating.specs.Laws.Close.{R-close, dd-close}
 
 pub record InRange (ν : Numbers) : Type 0 where
   pub n : In 1 3 (ν .n)
-  pub R : In 36500000000 788000000000000 (ν .R)
-  pub S : ν .S ≤ 610500000000000
-  pub W : ν .W ≤ 500610000000000
-  pub dd : ν .dd ≤ 4187500000000000
+  pub R : In leastConductorResistance mostAcResistance (ν .R)
+  pub S : ν .S ≤ mostSheathLoss
+  pub W : ν .W ≤ mostArmourLoss
+  pub dd : ν .dd ≤ mostDielectricRise
 
 pub record Close (e : Numbers*) (ν : Numbers) : Type 0 where
   pub R : Within 40000 (whole 0) (e .R) (whole (ν .R))
@@ -35,12 +36,12 @@ pub record Lawful (a : Arrangement) : Type 0 where
 
 -- no loss at all
 pub none-lost : Within 40000 (whole 2000) (whole 0) (whole 0)
-none-lost = within-weaken (lit≤ tt) (at-most (lit≤ tt)) (within-refl (≤F-refl (whole 0) (lit< tt)))
+none-lost = within-weaken (lit≤ tt) (whole-mono (lit≤ tt)) (within-refl (≤F-refl (whole 0) (lit< tt)))
 
 module _
     {a : Arrangement} {x : List ℕ} (fit : Fit a x) (spaced : Field.conductorDiameter x ≤ Field.spacing x)
     {n : ℕ} (n-in : In 1 3 n) where
-  pub alternating-in-range : {s w : ℕ} → s ≤ 610500000000000 → w ≤ 500610000000000 → InRange (alternating n s w x)
+  pub alternating-in-range : {s w : ℕ} → s ≤ mostSheathLoss → w ≤ mostArmourLoss → InRange (alternating n s w x)
   unfolding alternating
   alternating-in-range s≤ w≤ =
       let fine = fit .sound in

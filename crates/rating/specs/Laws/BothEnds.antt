@@ -6,8 +6,10 @@ use native.Mathlib.Omega.{arith}
 use lib.Dec.{lit≤}
 use borrow.Author.Tests.{leb-true}
 use Rattle.exact.specs.Fraction.{whole}
+use Rattle.exact.specs.Laws.Fraction.{whole-mono}
 use Rattle.exact.specs.Error.{Within}
 use Rattle.exact.specs.Laws.Error.{within-weaken}
+use Rattle.formulas.specs.Bounds.{mostSheathLoss}
 use Rattle.formulas.specs.Sheath.{circulatingLoss, circulatingLoss*}
 use Rattle.formulas.specs.Laws.Ranges.{In, circulatingLoss-most}
 use Rattle.formulas.specs.Laws.CloseSheath.{circulating-close}
@@ -17,7 +19,7 @@ use Rattle.rating.specs.Chosen.{Chosen, X*}
 use Rattle.rating.specs.BothEnds.{bothEnds}
 use Rattle.rating.specs.Laws.Fit.{Fit}
 use Rattle.rating.specs.Laws.Ranges.{Rs-range, X-range, conductors-apart}
-use Rattle.rating.specs.Laws.Close.{at-most, X-close}
+use Rattle.rating.specs.Laws.Close.{X-close}
 use Rattle.rating.specs.Laws.Arrangement.{Lawful, none-lost, alternating-in-range, alternating-close}
 
 one : In 1 3 1
@@ -30,7 +32,7 @@ both-ends-apart fit = leb-true _ _ (fit .geometry)
 spaced : {x : List ℕ} → Fit bothEnds x → Field.conductorDiameter x ≤ Field.spacing x
 spaced fit = conductors-apart (fit .sound) (both-ends-apart fit)
 
-S-most : {x : List ℕ} → Fit bothEnds x → circulatingLoss (X x) (Rs x) ≤ 610500000000000
+S-most : {x : List ℕ} → Fit bothEnds x → circulatingLoss (X x) (Rs x) ≤ mostSheathLoss
 S-most {x} fit = omega (arith, circulatingLoss-most (X x) (Rs x), Rs-range (fit .sound))
 
 S-close :
@@ -39,7 +41,7 @@ S-close :
 S-close c fit =
     let fine = fit .sound in
     let apart = both-ends-apart fit in
-    within-weaken (lit≤ tt) (at-most (lit≤ tt)) (circulating-close (X-range fine apart .least) (Rs-range fine) (X-close c fine apart))
+    within-weaken (lit≤ tt) (whole-mono (lit≤ tt)) (circulating-close (X-range fine apart .least) (Rs-range fine) (X-close c fine apart))
 
 pub both-ends-lawful : Lawful bothEnds
 unfolding bothEnds

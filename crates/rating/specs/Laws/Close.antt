@@ -1,13 +1,13 @@
 -- R, X, X- and Wd of a case against their exact values, by the bounds of their formulas. Assumes nothing.
 use mathlib.Core.List.{List}
 use Prim.Native.Nat.{ℕ, _≤_, _<_}
-use native.Mathlib.Nat.{mul-le-mul-right}
 use native.Mathlib.Omega.{arith}
 use lib.Dec.{lit<, lit≤}
-use Rattle.exact.specs.Fraction.{whole, _≤F_}
+use Rattle.exact.specs.Fraction.{whole}
 use Rattle.exact.specs.Laws.Fraction.{≤F-refl}
 use Rattle.exact.specs.Error.{Within}
 use Rattle.exact.specs.Laws.Error.{within-weaken}
+use Rattle.formulas.specs.Refusals.{skinLimit}
 use Rattle.formulas.specs.Dielectric.{dielectricRise, dielectricRise*}
 use Rattle.formulas.specs.Laws.TableRange.{ks-range, kp-range}
 use Rattle.formulas.specs.Laws.CloseProximity.{resistance-close}
@@ -20,12 +20,9 @@ use Rattle.rating.specs.Chosen.{Chosen, B*, R*, X*, Wd*}
 use Rattle.rating.specs.Laws.Sound.{Sound}
 use Rattle.rating.specs.Laws.Ranges.{R'-range, insulation-ratio, spacing-ratio}
 
-pub at-most : {n m : ℕ} → n ≤ m → whole n ≤F whole m
-at-most n≤ = record { left = lit< tt; right = lit< tt; across = mul-le-mul-right 1 n≤ }
-
 module _ {x : List ℕ} (c : Chosen x) (fine : Sound x) where
   pub R-close :
-      zs x ≤ 7840000000000 → zp x ≤ 7840000000000 → Field.conductorDiameter x ≤ Field.spacing x →
+      zs x ≤ skinLimit → zp x ≤ skinLimit → Field.conductorDiameter x ≤ Field.spacing x →
       Within 40000 (whole 0) (R* x c) (whole (R x))
   unfolding R* R ys yp G zs zp
   R-close zs≤ zp≤ spaced =

@@ -6,8 +6,10 @@ use native.Mathlib.Omega.{arith}
 use lib.Dec.{lit≤}
 use borrow.Author.Tests.{leb-true}
 use Rattle.exact.specs.Fraction.{whole}
+use Rattle.exact.specs.Laws.Fraction.{whole-mono}
 use Rattle.exact.specs.Error.{Within}
 use Rattle.exact.specs.Laws.Error.{within-weaken}
+use Rattle.formulas.specs.Bounds.{mostSheathLoss}
 use Rattle.formulas.specs.Sheath.{eddyLoss, eddyLoss*}
 use Rattle.formulas.specs.Laws.Ranges.{In, eddyLoss-most}
 use Rattle.formulas.specs.Laws.CloseEddy.{eddy-close}
@@ -17,7 +19,6 @@ use Rattle.rating.specs.Chosen.{Chosen, B*}
 use Rattle.rating.specs.OnePoint.{onePoint}
 use Rattle.rating.specs.Laws.Fit.{Fit}
 use Rattle.rating.specs.Laws.Ranges.{Rs-range, conductors-apart}
-use Rattle.rating.specs.Laws.Close.{at-most}
 use Rattle.rating.specs.Laws.Arrangement.{Lawful, none-lost, alternating-in-range, alternating-close}
 
 one : In 1 3 1
@@ -36,7 +37,7 @@ module _ (j : ℕ) where
   spaced fit = conductors-apart (fit .sound) (one-point-apart fit)
 
   module _ (j≤ : j ≤ 2) where
-    S-most : {x : List ℕ} → Fit (onePoint j) x → eddyLoss j (B x) (Rs x) (Field.sheathDiameter x) (Field.spacing x) ≤ 610500000000000
+    S-most : {x : List ℕ} → Fit (onePoint j) x → eddyLoss j (B x) (Rs x) (Field.sheathDiameter x) (Field.spacing x) ≤ mostSheathLoss
     S-most {x} fit =
         let fine = fit .sound in
         eddyLoss-most (B x) j≤
@@ -54,7 +55,7 @@ module _ (j : ℕ) where
     unfolding B* B
     S-close c fit =
         let fine = fit .sound in
-        within-weaken (lit≤ tt) (at-most (lit≤ tt))
+        within-weaken (lit≤ tt) (whole-mono (lit≤ tt))
         (eddy-close (c .is-pi) (fine .frequency) (Rs-range fine) (eddies-small fit) j≤
         (omega (arith, fine .sheathDiameter))
         (one-point-apart fit))

@@ -7,6 +7,24 @@ use native.Mathlib.Omega.{arith}
 use lib.Dec.{lit≤}
 use lib.IntN.{ℤ, pos, negsuc, negℤ}
 use lib.Signed.{_≤ℤ_}
+use Rattle.formulas.specs.Refusals.{skinLimit}
+use Rattle.formulas.specs.Bounds.{
+  leastConductorResistance,
+  leastInsulationLog,
+  leastReactance,
+  leastSheathReactance,
+  leastSheathReactanceLow,
+  leastSheathResistance,
+  mostAcResistance,
+  mostDielectricLoss,
+  mostLog,
+  mostProximityFactor,
+  mostReactance,
+  mostResistance,
+  mostSheathReactance,
+  mostSkinFactor,
+  mostSpacingLog,
+}
 use Rattle.formulas.specs.Tables.{conductorMetal}
 use Rattle.formulas.specs.Skin.{skinFactor}
 use Rattle.formulas.specs.Proximity.{spacingRatio}
@@ -28,7 +46,7 @@ above-cold (pos n) h = record { le = tt }
 above-cold (negsuc n) h = absurd (h .le)
 
 module _ {x : List ℕ} (fine : Sound x) where
-  pub R'-range : In 36500000000 407000000000000 (R' x)
+  pub R'-range : In leastConductorResistance mostResistance (R' x)
   unfolding R'
   R'-range =
       Law.resistance-range 5000 20000000 (Field.conductorTemperature x) (fine .resistance)
@@ -36,7 +54,7 @@ module _ {x : List ℕ} (fine : Sound x) where
       (above-cold _ (fine .hot .least))
       (fine .hot .most)
 
-  pub Rs-range : In 7300000000 407000000000000 (Rs x)
+  pub Rs-range : In leastSheathResistance mostResistance (Rs x)
   unfolding Rs
   Rs-range =
       Law.resistance-range 1000 20000000 (Field.sheathTemperature x) (fine .sheathResistance)
@@ -44,14 +62,14 @@ module _ {x : List ℕ} (fine : Sound x) where
       (fine .sheathTemperature .least)
       (fine .sheathTemperature .most)
 
-  pub B-range : In 125663706144 816814089936 (B x)
+  pub B-range : In leastReactance mostReactance (B x)
   unfolding B
   B-range = Law.reactance-range (fine .frequency)
 
   pub insulation-ratio : Field.insulationDiameter x < 32768 * Field.screenDiameter x
   insulation-ratio = omega (arith, fine .insulationDiameter, fine .screenDiameter)
 
-  pub insulationLog-range : In 48780487804 18370727194525 (logLow (Field.insulationDiameter x) (Field.screenDiameter x))
+  pub insulationLog-range : In leastInsulationLog mostLog (logLow (Field.insulationDiameter x) (Field.screenDiameter x))
   insulationLog-range =
       record {
         least =
@@ -66,17 +84,17 @@ module _ {x : List ℕ} (fine : Sound x) where
       (mul-le-mul (fine .permittivity .most) (mul-le-mul (fine .voltage .most) (fine .voltage .most)))
       (fine .lossFactor .most)
 
-  pub Wd-most : Wd x ≤ 33500000000000000
+  pub Wd-most : Wd x ≤ mostDielectricLoss
   unfolding Wd dielectricLoss
   Wd-most = Law.dielectricLoss-most loss-product (B-range .most) (insulationLog-range .least)
 
   -- after refusal 8
-  module _ (zs≤ : zs x ≤ 7840000000000) (zp≤ : zp x ≤ 7840000000000) where
-    pub ys-most : ys x ≤ 254900000000
+  module _ (zs≤ : zs x ≤ skinLimit) (zp≤ : zp x ≤ skinLimit) where
+    pub ys-most : ys x ≤ mostSkinFactor
     unfolding ys zs skinFactor
     ys-most = Law.factor-most (Law.skinRatioSquared-most zs≤)
 
-    pub G-most : G x ≤ 254900000000
+    pub G-most : G x ≤ mostSkinFactor
     unfolding G zp skinFactor
     G-most = Law.factor-most (Law.skinRatioSquared-most zp≤)
 
@@ -85,11 +103,11 @@ module _ {x : List ℕ} (fine : Sound x) where
       pub u-most : spacingRatio (Field.conductorDiameter x) (Field.spacing x) ≤ 1000000000000
       u-most = Law.spacingRatio-most (omega (arith, fine .spacing)) spaced
 
-      pub yp-most : yp x ≤ 680000000000
+      pub yp-most : yp x ≤ mostProximityFactor
       unfolding yp
       yp-most = Law.proximityFactor-most u-most G-most
 
-      pub R-range : In 36500000000 788000000000000 (R x)
+      pub R-range : In leastConductorResistance mostAcResistance (R x)
       unfolding R
       R-range = Law.acResistance-range R'-range ys-most yp-most
 
@@ -102,16 +120,16 @@ module _ {x : List ℕ} (fine : Sound x) where
     pub spacing-ratio : 2 * Field.spacing x < 32768 * Field.sheathDiameter x
     spacing-ratio = omega (arith, fine .spacing, fine .sheathDiameter)
 
-    pub spacingLogHigh-most : spacingLogHigh (Field.arrangement x) (Field.spacing x) (Field.sheathDiameter x) ≤ 18601776254712
+    pub spacingLogHigh-most : spacingLogHigh (Field.arrangement x) (Field.spacing x) (Field.sheathDiameter x) ≤ mostSpacingLog
     spacingLogHigh-most = Law.spacingLogHigh-most _ _ _ (omega (arith, fine .sheathDiameter)) (omega arith) spacing-ratio
 
-    pub spacingLogLow-most : spacingLogLow (Field.arrangement x) (Field.spacing x) (Field.sheathDiameter x) ≤ 18601776254712
+    pub spacingLogLow-most : spacingLogLow (Field.arrangement x) (Field.spacing x) (Field.sheathDiameter x) ≤ mostSpacingLog
     spacingLogLow-most = Law.spacingLogLow-most _ _ _ (omega (arith, fine .sheathDiameter)) (omega arith) spacing-ratio
 
     d>0 : 0 < Field.sheathDiameter x
     d>0 = omega (arith, fine .sheathDiameter)
 
-    pub X-range : In 87000000000 15200000000000 (X x)
+    pub X-range : In leastSheathReactance mostSheathReactance (X x)
     unfolding X
     X-range =
         record {
@@ -119,7 +137,7 @@ module _ {x : List ℕ} (fine : Sound x) where
           most = Law.sheathReactance-most (B-range .most) spacingLogHigh-most;
         }
 
-    pub XLow-range : In 80000000000 15200000000000 (XLow x)
+    pub XLow-range : In leastSheathReactanceLow mostSheathReactance (XLow x)
     unfolding XLow
     XLow-range =
         record {

@@ -7,8 +7,10 @@ use lib.IntN.{pos, negℤ}
 use borrow.Author.Tests.{leb-true}
 use Rattle.bools.specs.Tests.{both}
 use Rattle.exact.specs.Fraction.{whole}
+use Rattle.exact.specs.Laws.Fraction.{whole-mono}
 use Rattle.exact.specs.Error.{Within}
 use Rattle.exact.specs.Laws.Error.{within-weaken}
+use Rattle.formulas.specs.Bounds.{leastSheathResistance, mostArmourLoss, mostResistance}
 use Rattle.formulas.specs.Sheath.{slLoss, slLoss*}
 use Rattle.formulas.specs.Armour.{armourLoss, armourLoss*}
 use Rattle.formulas.specs.Laws.Ranges as Law
@@ -23,7 +25,7 @@ use Rattle.rating.specs.SlType.{armourLimits, slType}
 use Rattle.rating.specs.Laws.Sound.{InZ, in-range, in-rangeZ}
 use Rattle.rating.specs.Laws.Fit.{Fit}
 use Rattle.rating.specs.Laws.Ranges.{Rs-range, X-range, XLow-range, conductors-apart}
-use Rattle.rating.specs.Laws.Close.{at-most, X-close, XLow-close}
+use Rattle.rating.specs.Laws.Close.{X-close, XLow-close}
 use Rattle.rating.specs.Laws.Arrangement.{Lawful, alternating-in-range, alternating-close}
 
 pub record Armoured (x : List ℕ) : Type 0 where
@@ -63,14 +65,14 @@ module _ {x : List ℕ} (fit : Fit slType x) where
   spaced : Field.conductorDiameter x ≤ Field.spacing x
   spaced = conductors-apart (fit .sound) (known .apart)
 
-  pub RA-range : In 7300000000 407000000000000 (RA x)
+  pub RA-range : In leastSheathResistance mostResistance (RA x)
   unfolding RA
   RA-range =
       Law.resistance-range 1000 20000000 (Field.armourTemperature x) (known .resistance) (coefficient-most (Field.armourMetal x))
       (known .temperature .least)
       (known .temperature .most)
 
-  W-most : armourLoss (RA x) (B x) (Field.axisDistance x) (Field.armourDiameter x) (XLow x) (Rs x) ≤ 500610000000000
+  W-most : armourLoss (RA x) (B x) (Field.axisDistance x) (Field.armourDiameter x) (XLow x) (Rs x) ≤ mostArmourLoss
   unfolding armourLoss
   W-most =
       Law.screenedLoss-most (XLow x) (Rs x)
@@ -80,7 +82,7 @@ module _ {x : List ℕ} (fit : Fit slType x) where
     S-close : Within 40000 (whole 2000) (slLoss* (X* x c) (Rs x)) (whole (slLoss (X x) (Rs x)))
     S-close =
         let fine = fit .sound in
-        within-weaken (lit≤ tt) (at-most (lit≤ tt))
+        within-weaken (lit≤ tt) (whole-mono (lit≤ tt))
         (sl-close (X-range fine (known .apart) .least) (Rs-range fine) (X-close c fine (known .apart)))
 
     W-close :
@@ -90,7 +92,7 @@ module _ {x : List ℕ} (fit : Fit slType x) where
     unfolding B* B
     W-close =
         let fine = fit .sound in
-        within-weaken (lit≤ tt) (at-most (lit≤ tt))
+        within-weaken (lit≤ tt) (whole-mono (lit≤ tt))
         (armour-close (Field.axisDistance x) (c .is-pi) (fine .frequency) RA-range (omega (arith, known .diameter)) (known .distance)
         (XLow-range fine (known .apart) .least)
         (Rs-range fine)

@@ -4,6 +4,7 @@ use mathlib.Core.List.{List}
 use Prim.Native.Nat.{ℕ, _≤_}
 use Rattle.exact.specs.Fraction.{whole}
 use Rattle.exact.specs.Error.{Within}
+use Rattle.formulas.specs.Bounds.{leastUnitRise, mostUnitRise}
 use Rattle.formulas.specs.Laws.Ranges.{In, unitRise-least, unitRise-most}
 use Rattle.formulas.specs.Laws.CloseUnitRise.{unitRise-close}
 use Rattle.fields.specs.Fields as Field
@@ -22,7 +23,7 @@ module _ {x : List ℕ} (fit : Fit (own x) x) where
   pub numbers-in-range : InRange (numbersOf x)
   numbers-in-range = lawful (Field.arrangement x) .in-range fit
 
-  pub E-range : In 36500000 221000000000000000 (E x)
+  pub E-range : In leastUnitRise mostUnitRise (E x)
   unfolding E
   E-range =
       let ν = numbers-in-range in

@@ -22,3 +22,8 @@ spaced (x ∷ xs) = 32 ∷ (decimal x ++ spaced xs)
 unfoldable pub written : List ℕ → List ℕ
 written [] = []
 written (x ∷ xs) = decimal x ++ spaced xs
+
+-- the last n digits of x, with zeros in front where x has fewer
+unfoldable pub padded : ℕ → ℕ → List ℕ
+padded zero x = []
+padded (suc n) x = padded n (x / 10) ++ ((x % 10 + 48) ∷ [])

@@ -4,7 +4,7 @@ ghost use mathlib.Core.Path.{_≡_};
 ghost use Prim.Native.Nat.{_+_, _%_, _<_, _≤_, min};
 ghost use lib.ListN.{length};
 ghost use Rattle.decimals.specs.Decimal.{decimal, spaced};
-ghost use Rattle.decimals.specs.DecimalLaws.{padded};
+ghost use Rattle.decimals.specs.Decimal.{padded};
 ghost use Rattle.splice.specs.Splice.{splice};
 
 // The byte of a digit.

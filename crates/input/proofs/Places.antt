@@ -7,7 +7,7 @@ use native.Mathlib.Omega.{arith}
 use lib.ListN.{length, take, drop, length-append}
 use lib.Seq.{length-take-le}
 use Rattle.text.specs.Gather.{isInLine}
-use Rattle.text.specs.Runs.{run-within}
+use Rattle.text.specs.Laws.Runs.{run-within}
 use Rattle.splice.specs.Splice.{splice}
 use Rattle.text.specs.Words.{run}
 

@@ -4,7 +4,7 @@ ghost use mathlib.Core.Path.{_≡_};
 ghost use Prim.Native.Nat.{_+_, _<_, _≤_};
 ghost use lib.Dec.{eqb};
 ghost use lib.ListN.{getD, length};
-ghost use Rattle.line_in_place.specs.Row.{PlainLine, longest};
+ghost use Rattle.line_in_place.specs.Plain.{PlainLine, longest};
 ghost use Rattle.fields.specs.Fields.{width};
 use crate::number::number_at;
 use text::line::WIDTH;

@@ -9,7 +9,7 @@ use lib.Seq.{drop-drop}
 use Rattle.text.specs.declared.number.Reading.{Reading}
 use Rattle.text.specs.Line.{aCase, unreadable, field, fields}
 use Rattle.text.specs.Number.{readNumber}
-use Rattle.text.specs.Runs.{left, nothing-left}
+use Rattle.text.specs.Laws.Runs.{left, nothing-left}
 use Rattle.text.specs.Words.{run, isBlank, isInk, dropBlanks, word, dropWord}
 
 pub past-blanks : (s : List ℕ) (at from : ℕ) → from ≡ at + run isBlank (drop at s) → dropBlanks (drop at s) ≡ drop from s

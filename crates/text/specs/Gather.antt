@@ -1,9 +1,10 @@
 -- What is kept of a chunk for a line. Assumes nothing.
 use mathlib.Core.Bool.{Bool, not}
 use mathlib.Core.List.{List}
-use Prim.Native.Nat.{ℕ, _-_}
+use mathlib.Core.Path.{_≡_}
+use Prim.Native.Nat.{ℕ, _-_, min}
 use lib.Dec.{eqb}
-use lib.ListN.{take, drop}
+use lib.ListN.{length, take, drop}
 
 -- any byte but a line feed
 unfoldable pub isInLine : ℕ → Bool
@@ -16,3 +17,8 @@ piece from to chunk = take (to - from) (drop from chunk)
 -- as many of them as there is room for
 unfoldable pub kept : ℕ → ℕ → ℕ → List ℕ → List ℕ
 kept room from to chunk = take room (piece from to chunk)
+
+-- the first len elements of l are as much of the line as a room of n bytes holds
+pub record Holds (n : ℕ) (l line : List ℕ) (len : ℕ) : Type 0 where
+  pub size : len ≡ min n (length line)
+  pub bytes : take len l ≡ take n line

@@ -1,7 +1,7 @@
 -- The number that a word says: digits, or a minus sign and digits. Assumes nothing.
-use mathlib.Core.Bool.{Bool, true, cond, not, _&&_}
+use mathlib.Core.Bool.{Bool, true, cond, not, _&&_, _||_}
 use mathlib.Core.List.{List, [], _∷_}
-use Prim.Native.Nat.{ℕ, _+_, _-_, _*_, _%_}
+use Prim.Native.Nat.{ℕ, _+_, _-_, _*_, _%_, _^_, _<_}
 use lib.Dec.{leb, eqb}
 use lib.ListN.{drop, getD}
 use Rattle.text.specs.declared.number.Reading.{Reading}
@@ -10,6 +10,10 @@ use Rattle.text.specs.Words.{isEmpty}
 
 unfoldable pub isDigit : ℕ → Bool
 isDigit b = leb 48 b && leb b 57
+
+-- digits and the minus sign
+unfoldable pub isNumeral : ℕ → Bool
+isNumeral b = isDigit b || eqb b 45
 
 -- all bytes pass a test
 unfoldable pub every : (ℕ → Bool) → List ℕ → Bool
@@ -36,3 +40,7 @@ negated Nothing = Nothing
 -- digits to 4294967295, or a minus sign and digits to 2147483648
 unfoldable pub readNumber : List ℕ → Reading
 readNumber w = cond (eqb (getD w 0 0) 45) (negated (readDigits 2147483648 (drop 1 w))) (readDigits 4294967295 w)
+
+-- every number is below 2^32
+unfoldable pub Below32 : List ℕ → Type 0
+Below32 xs = (i : ℕ) → getD xs i 0 < 2 ^ 32

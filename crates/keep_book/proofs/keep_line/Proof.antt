@@ -10,7 +10,8 @@ use Rattle.keep_book.specs.Keeping.{unchanged, keepFor, keepOf}
 use Rattle.book_laws.specs.Append.{appendOf}
 use Rattle.book_laws.specs.Start.{Written}
 use Rattle.text.specs.declared.line.Read.{Read}
-use Rattle.text.specs.Answer.{answer, saidOf, said-answer}
+use Rattle.text.specs.Answer.{answer, saidOf}
+use Rattle.text.specs.Laws.Answer.{said-answer}
 use Rattle.text.specs.Line.{passedOver, unreadable, readLine}
 use Rattle.keep_book.proofs.keep_line.Statement.{statement}
 use Rattle.keep_book.proofs.keep_line.Tie as tie

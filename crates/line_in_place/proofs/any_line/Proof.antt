@@ -2,7 +2,7 @@
 -- Assumes nothing.
 use borrow.Author.Needs.{needs}
 use Rattle.line_in_place.specs.Standing.{lineEnd, lineOf}
-use Rattle.line_in_place.specs.StandingLaws.{stands-whole, stands-in-part}
+use Rattle.line_in_place.specs.Laws.Standing.{stands-whole, stands-in-part}
 use Rattle.text.specs.Gather.{piece}
 use Rattle.line_in_place.proofs.any_line.Statement.{statement}
 use Rattle.line_in_place.proofs.any_line.Tie as tie

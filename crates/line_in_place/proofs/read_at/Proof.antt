@@ -2,7 +2,7 @@
 -- Assumes nothing.
 use mathlib.Core.Path.{sym, ap}
 use Rattle.line_in_place.specs.Standing.{lineOf}
-use Rattle.line_in_place.specs.StandingLaws.{stands-whole}
+use Rattle.line_in_place.specs.Laws.Standing.{stands-whole}
 use Rattle.text.specs.Answer.{answer}
 use Rattle.text.specs.Line.{readLine}
 use Rattle.line_in_place.proofs.read_at.Statement.{statement}

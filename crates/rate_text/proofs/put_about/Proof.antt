@@ -5,7 +5,7 @@ use borrow.Author.Needs.{needs}
 use Rattle.splice.specs.Put.{put-then}
 use Rattle.rate_text.specs.Answers.{aboutLine}
 use Rattle.decimals.specs.Decimal.{decimal}
-use Rattle.decimals.specs.DecimalLaws.{count-64}
+use Rattle.decimals.specs.Laws.Decimal.{count-64}
 use Rattle.rate_text.proofs.put_about.Statement.{statement}
 use Rattle.rate_text.proofs.put_about.Tie as tie
 

@@ -8,7 +8,7 @@ use borrow.Author.Needs.{needs}
 use Rattle.splice.specs.Put.{put-as, put-then}
 use Rattle.rate_text.specs.Answers.{textOf}
 use Rattle.decimals.specs.Decimal.{decimal, spaced, written}
-use Rattle.decimals.specs.DecimalLaws.{count-64, spaced-append}
+use Rattle.decimals.specs.Laws.Decimal.{count-64, spaced-append}
 use Rattle.rate_text.proofs.put_answer.Statement.{statement}
 use Rattle.rate_text.proofs.put_answer.Tie as tie
 

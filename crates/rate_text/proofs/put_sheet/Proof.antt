@@ -10,7 +10,7 @@ use lib.ListN.{length, getD, take}
 use lib.Seq.{take-suc, take-all}
 use Rattle.splice.specs.Put.{Put, put-as, put-nothing, put-then}
 use Rattle.decimals.specs.Decimal.{spaced}
-use Rattle.decimals.specs.DecimalLaws.{spaced-append}
+use Rattle.decimals.specs.Laws.Decimal.{spaced-append}
 use Rattle.rate_text.proofs.put_sheet.Statement.{statement}
 use Rattle.rate_text.proofs.put_sheet.Tie as tie
 

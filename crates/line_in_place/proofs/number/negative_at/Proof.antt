@@ -4,8 +4,8 @@ use mathlib.Core.Path.{sym, _∙_}
 use native.Mathlib.Omega.{arith}
 use borrow.Author.Needs.{needs}
 use Rattle.bools.specs.Tests.{other-outcome}
-use Rattle.line_in_place.specs.NumberAt.{with-sign}
-use Rattle.text.specs.Leading.{number-test, digits-near}
+use Rattle.line_in_place.specs.Laws.NumberAt.{with-sign}
+use Rattle.text.specs.Laws.Leading.{number-test, digits-near}
 use Rattle.line_in_place.proofs.number.negative_at.Statement.{statement}
 use Rattle.line_in_place.proofs.number.negative_at.Tie as tie
 

@@ -3,8 +3,8 @@
 use mathlib.Core.Path.{sym, _∙_}
 use native.Mathlib.Omega.{arith}
 use borrow.Author.Needs.{needs}
-use Rattle.line_in_place.specs.NumberAt.{without-sign}
-use Rattle.text.specs.Leading.{number-test, digits-near}
+use Rattle.line_in_place.specs.Laws.NumberAt.{without-sign}
+use Rattle.text.specs.Laws.Leading.{number-test, digits-near}
 use Rattle.line_in_place.proofs.number.number_at.Statement.{statement}
 use Rattle.line_in_place.proofs.number.number_at.Tie as tie
 

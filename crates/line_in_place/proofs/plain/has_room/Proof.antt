@@ -7,8 +7,7 @@ use native.Mathlib.Omega.{arith}
 use borrow.Author.Needs.{needs}
 use borrow.Author.Tests.{leb-true}
 use lib.Dec.{leb}
-use Rattle.line_in_place.specs.Row.{longest}
-use Rattle.fields.specs.Fields.{width}
+use Rattle.line_in_place.specs.Plain.{longest}
 use Rattle.line_in_place.proofs.plain.has_room.Statement.{statement}
 use Rattle.line_in_place.proofs.plain.has_room.Tie as tie
 

@@ -14,8 +14,8 @@ use lib.ListN.{length, getD, take, set, length-set}
 use lib.Seq.{take-all, take-suc-set}
 use Rattle.bools.specs.Tests.{other-outcome}
 use Rattle.line_in_place.specs.NumberAt.{NumberAt}
-use Rattle.line_in_place.specs.Row.{PlainLine, longest, Row, row-none, row-more, row-ends}
-use Rattle.fields.specs.Fields.{width}
+use Rattle.line_in_place.specs.Plain.{PlainLine, longest}
+use Rattle.line_in_place.specs.Laws.Row.{Row, row-none, row-more, row-ends}
 use Rattle.text.specs.Words.{isBlank}
 use Rattle.line_in_place.proofs.plain.plain_line.Statement.{statement}
 use Rattle.line_in_place.proofs.plain.plain_line.Tie as tie

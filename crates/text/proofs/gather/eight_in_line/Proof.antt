@@ -10,7 +10,7 @@ use borrow.Author.Needs.{needs}
 use lib.ListN.{length, getD, drop}
 use Rattle.text.specs.Gather.{isInLine}
 use Rattle.bools.specs.Tests.{both}
-use Rattle.text.specs.Runs.{run-more}
+use Rattle.text.specs.Laws.Runs.{run-more}
 use Rattle.text.specs.Words.{run}
 use Rattle.text.proofs.gather.eight_in_line.Statement.{statement}
 use Rattle.text.proofs.gather.eight_in_line.Tie as tie

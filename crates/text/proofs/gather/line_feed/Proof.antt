@@ -8,7 +8,7 @@ use native.Mathlib.Omega.{arith}
 use borrow.Author.Tests.{eq-eqb, ne-eqb}
 use lib.ListN.{length, drop}
 use Rattle.text.specs.Gather.{isInLine}
-use Rattle.text.specs.Runs.{run-more, run-stop, run-end}
+use Rattle.text.specs.Laws.Runs.{run-more, run-stop, run-end}
 use Rattle.text.specs.Words.{run}
 use Rattle.text.proofs.gather.line_feed.Statement.{statement}
 use Rattle.text.proofs.gather.line_feed.Tie as tie

@@ -11,13 +11,13 @@ use lib.ListN.{length, take, drop, set, length-set}
 use lib.Seq.{take-all, take-suc-set}
 use Rattle.text.specs.declared.number.Reading.{Reading}
 use Rattle.text.specs.declared.number.Reading.the-variants.{Number, Nothing}
-use Rattle.text.specs.After.{after, after-one, after-unreadable, after-none}
+use Rattle.text.specs.Laws.After.{after, after-one, after-unreadable, after-none}
 use Rattle.text.specs.Answer.{answer}
 use Rattle.text.specs.Gather.{piece}
 use Rattle.text.specs.Line.{aCase, unreadable, field, fields}
 use Rattle.fields.specs.Fields.{width}
 use Rattle.text.specs.Number.{readNumber}
-use Rattle.text.specs.Runs.{run-within}
+use Rattle.text.specs.Laws.Runs.{run-within}
 use Rattle.text.specs.Words.{run, isBlank, isInk}
 use Rattle.text.proofs.Fields.{turn, ends, goes-on}
 use Rattle.text.proofs.line.read_fields.Statement.{statement}

@@ -11,7 +11,7 @@ use lib.Dec.{eqb}
 use lib.ListN.{length, getD, take}
 use lib.Seq.{length-take-le}
 use Rattle.text.specs.Answer.{answer}
-use Rattle.text.specs.GatherLaws.{too-long}
+use Rattle.text.specs.Laws.Gather.{too-long}
 use Rattle.text.specs.Line.{says, textLength, readLineOf, readLine}
 use Rattle.fields.specs.Fields.{width}
 use Rattle.text.proofs.line.read_line.Statement.{statement}

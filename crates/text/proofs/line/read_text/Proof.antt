@@ -10,7 +10,7 @@ use lib.ListN.{length, getD, drop}
 use Rattle.text.specs.Answer.{answer}
 use Rattle.text.specs.Line.{passedOver, fields, says}
 use Rattle.fields.specs.Fields.{width}
-use Rattle.text.specs.Runs.{left, nothing-left}
+use Rattle.text.specs.Laws.Runs.{left, nothing-left}
 use Rattle.text.specs.Words.{run, isBlank}
 use Rattle.text.proofs.Fields.{past-blanks}
 use Rattle.text.proofs.line.read_text.Statement.{statement}

@@ -5,8 +5,8 @@ use mathlib.Core.Path.{sym, _∙_}
 use native.Mathlib.Omega.{arith}
 use borrow.Author.Needs.{needs}
 use Rattle.text.specs.Gather.{piece}
-use Rattle.text.specs.Leading.{number-test, word-ends, word-says}
-use Rattle.text.specs.Runs.{run-within}
+use Rattle.text.specs.Laws.Leading.{number-test, word-ends, word-says}
+use Rattle.text.specs.Laws.Runs.{run-within}
 use Rattle.text.specs.Words.{isInk}
 use Rattle.text.proofs.line.read_word.Statement.{statement}
 use Rattle.text.proofs.line.read_word.Tie as tie

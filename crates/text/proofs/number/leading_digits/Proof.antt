@@ -8,10 +8,11 @@ use mathlib.Core.Path.{_≡_, sym, ap, subst, _∙_}
 use Prim.Native.Nat.{ℕ, _+_, _-_, _*_, _^_, _≤_, _<_}
 use native.Mathlib.Omega.{arith}
 use lib.ListN.{length, getD, drop}
-use Rattle.text.specs.Leading.{DigitsIn, digitsEnd, digits-none, digits-more, small-more, small-most}
+use Rattle.text.specs.Leading.{DigitsIn, digitsEnd}
+use Rattle.text.specs.Laws.Leading.{digits-none, digits-more, small-more, small-most}
 use Rattle.text.specs.Number.{isDigit}
-use Rattle.text.specs.NumberLaws.{is-digit, is-below-digits, is-above-digits}
-use Rattle.text.specs.Runs.{run-more, run-stop}
+use Rattle.text.specs.Laws.Number.{is-digit, is-below-digits, is-above-digits}
+use Rattle.text.specs.Laws.Runs.{run-more, run-stop}
 use Rattle.text.specs.Words.{run}
 use Rattle.text.proofs.number.leading_digits.Statement.{statement}
 use Rattle.text.proofs.number.leading_digits.Tie as tie

@@ -6,7 +6,7 @@ use Prim.Native.Nat.{_+_, _-_}
 use native.Mathlib.Omega.{arith}
 use borrow.Author.Tests.{not-true, not-false}
 use lib.ListN.{length, drop}
-use Rattle.text.specs.Runs.{run-more, run-stop, run-end}
+use Rattle.text.specs.Laws.Runs.{run-more, run-stop, run-end}
 use Rattle.text.specs.Words.{isBlank, run}
 use Rattle.text.proofs.words.skip_blanks.Statement.{statement}
 use Rattle.text.proofs.words.skip_blanks.Tie as tie

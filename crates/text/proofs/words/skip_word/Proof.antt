@@ -6,7 +6,7 @@ use mathlib.Core.Path.{_≡_, refl, sym, ap, _∙_}
 use Prim.Native.Nat.{_+_, _-_}
 use native.Mathlib.Omega.{arith}
 use lib.ListN.{length, drop}
-use Rattle.text.specs.Runs.{run-more, run-stop, run-end}
+use Rattle.text.specs.Laws.Runs.{run-more, run-stop, run-end}
 use Rattle.text.specs.Words.{isInk, run}
 use Rattle.text.proofs.words.skip_word.Statement.{statement}
 use Rattle.text.proofs.words.skip_word.Tie as tie

@@ -11,8 +11,8 @@ use lib.ListN.{length, getD, length-append}
 use lib.Seq.{take-append-seam, drop-append-seam, getD-append-seam, take-length}
 use Rattle.bools.specs.Tests.{both}
 use Rattle.text.specs.Line.{Said, passedOver, aCase, unreadable, field, fields, says, textLength, readLineOf}
-use Rattle.text.specs.Number.{isDigit, every, readDigits, readNumber}
-use Rattle.text.specs.NumberLaws.{every-at, differ}
+use Rattle.text.specs.Number.{isDigit, isNumeral, every, readDigits, readNumber}
+use Rattle.text.specs.Laws.Number.{every-at, differ}
 use Rattle.text.specs.Words.{isBlank, isInk, run, isEmpty, dropBlanks, word, dropWord}
 
 pub run-past : (p : ℕ → Bool) (s t : List ℕ) → every p s ≡ true → run p t ≡ 0 → run p (s ++ t) ≡ length s
@@ -54,11 +54,7 @@ blank-first (suc n) b s h = rw h
 
 -- ---- the bytes of numbers and blanks
 
--- digits and the minus sign
-unfoldable pub isNumeral : ℕ → Bool
-isNumeral b = isDigit b || eqb b 45
-
--- these, blanks and tabs
+-- digits, the minus sign, blanks and tabs
 unfoldable pub isPlain : ℕ → Bool
 isPlain b = isNumeral b || isBlank b
 

@@ -6,20 +6,16 @@ use Prim.Native.Nat.{ℕ, suc, _*_, _^_, _≤_, _<_}
 use native.Mathlib.Nat.{lt-trans}
 use native.Mathlib.Omega.{arith}
 use lib.Dec.{lit<}
-use lib.ListN.{length, getD, length-append}
+use lib.ListN.{length, length-append}
 use Rattle.decimals.specs.Decimal.{decimal, spaced, written}
-use Rattle.decimals.specs.DecimalLaws.{count-positive, count-below}
+use Rattle.decimals.specs.Laws.Decimal.{count-positive, count-below}
 use Rattle.text.specs.declared.number.Reading.{Reading}
 use Rattle.text.specs.Line.{aCase, before, field, fields, readLineOf, readLine}
 use Rattle.fields.specs.Fields.{width}
-use Rattle.text.specs.Number.{isDigit, every}
-use Rattle.text.specs.NumberLaws.{every-append, every-weaker, decimal-digits, read-decimal}
-use Rattle.text.specs.WordLaws.{one-field, blank-first, isNumeral, isPlain, digit-ink, digit-plain, plain-case}
+use Rattle.text.specs.Number.{isDigit, isNumeral, every, Below32}
+use Rattle.text.specs.Laws.Number.{every-append, every-weaker, decimal-digits, read-decimal}
+use Rattle.text.specs.Laws.Words.{one-field, blank-first, isPlain, digit-ink, digit-plain, plain-case}
 use Rattle.text.specs.Words.{isBlank, isInk, run, isEmpty, dropBlanks}
-
--- every number is below 2^32
-unfoldable pub Below32 : List ℕ → Type 0
-Below32 xs = (i : ℕ) → getD xs i 0 < 2 ^ 32
 
 ink-stops : (xs : List ℕ) → run isInk (spaced xs) ≡ 0
 unfolding run spaced isInk isBlank

@@ -3,14 +3,14 @@
 use mathlib.Core.Bool.{Bool, true, false}
 use mathlib.Core.List.{List, [], _∷_, _++_}
 use mathlib.Core.Path.{_≡_, refl, sym, ap, _∙_}
-use Prim.Native.Nat.{ℕ, zero, suc, _+_, _-_, _≤_, _<_, min}
+use Prim.Native.Nat.{ℕ, zero, suc, _+_, _-_, _≤_, _<_}
 use native.Mathlib.Nat.{zero-sub, sub-zero, suc-sub-suc}
 use native.Mathlib.Omega.{arith}
 use borrow.Author.Tests.{lt-ltb, ltb-true, ltb-false}
 use lib.Dec.{ltb}
 use lib.ListN.{length, take, drop, length-take, length-append}
 use lib.Seq.{take-all, take-at, take-nil, length-take-le}
-use Rattle.text.specs.Gather.{piece, kept}
+use Rattle.text.specs.Gather.{piece, kept, Holds}
 use Rattle.text.specs.Line.{unreadable, readLineOf}
 use Rattle.splice.specs.Splice.{splice}
 
@@ -30,11 +30,6 @@ start-decides n l = go (ltb 1023 (length l)) refl
     go false e = ap (readLineOf n) (take-all 1024 l (omega (arith, ltb-false 1023 (length l) e)))
 
 -- ---- what is kept is the start of the line
-
--- the first len elements of l are as much of the line as a room of n bytes holds
-pub record Holds (n : ℕ) (l line : List ℕ) (len : ℕ) : Type 0 where
-  pub size : len ≡ min n (length line)
-  pub bytes : take len l ≡ take n line
 
 take-append : (n : ℕ) (a b : List ℕ) → take n (a ++ b) ≡ take n a ++ take (n - length a) b
 take-append n [] b = sym (ap (λ (t : List ℕ). t ++ take (n - 0) b) (take-nil n) ∙ ap (λ (k : ℕ). take k b) (sub-zero n))

@@ -10,7 +10,7 @@ use lib.ListN.{length, getD}
 use Rattle.bools.specs.Tests.{both}
 use Rattle.text.specs.declared.number.Reading.the-variants.{Number}
 use Rattle.decimals.specs.Decimal.{decimal}
-use Rattle.decimals.specs.DecimalLaws.{decimal-small, decimal-large, decimal-ind, count-positive}
+use Rattle.decimals.specs.Laws.Decimal.{decimal-small, decimal-large, decimal-ind, count-positive}
 use Rattle.text.specs.Number.{isDigit, every, valueFrom, value, readDigits, readNumber}
 use Rattle.text.specs.Words.{isEmpty}
 

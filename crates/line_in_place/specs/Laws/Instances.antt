@@ -6,10 +6,12 @@ use mathlib.Core.Path.{_≡_, refl, sym, ap}
 use Prim.Native.Nat.{ℕ, _<_}
 use lib.Dec.{lit<, lit≤}
 use Rattle.line_in_place.specs.declared.Line.{Line}
-use Rattle.line_in_place.specs.NumberAt.{NumberAt, without-sign, with-sign}
-use Rattle.line_in_place.specs.Row.{PlainLine, Row, row-none, row-more, row-ends}
+use Rattle.line_in_place.specs.NumberAt.{NumberAt}
+use Rattle.line_in_place.specs.Laws.NumberAt.{without-sign, with-sign}
+use Rattle.line_in_place.specs.Plain.{PlainLine}
+use Rattle.line_in_place.specs.Laws.Row.{Row, row-none, row-more, row-ends}
 use Rattle.line_in_place.specs.Standing.{lineEnd, lineOf, standing}
-use Rattle.line_in_place.specs.StandingLaws.{stands-whole, stands-in-part, whole-within}
+use Rattle.line_in_place.specs.Laws.Standing.{stands-whole, stands-in-part, whole-within}
 use Rattle.text.specs.Answer.{answer, noCase}
 use Rattle.text.specs.Gather.{isInLine, piece}
 use Rattle.text.specs.Line.{readLine}

@@ -2,9 +2,10 @@
 use mathlib.Core.Bool.{Bool, not}
 use mathlib.Core.List.{List}
 use mathlib.Core.Path.{_≡_}
-use Prim.Native.Nat.{ℕ, _-_, min}
+use Prim.Native.Nat.{ℕ, suc, _-_, min}
 use lib.Dec.{eqb}
 use lib.ListN.{length, take, drop}
+use Rattle.text.specs.Line.{longestLine}
 
 -- any byte but a line feed
 unfoldable pub isInLine : ℕ → Bool
@@ -13,6 +14,10 @@ isInLine b = not (eqb b 10)
 -- the bytes of a chunk from `from` up to, not including, `to`
 unfoldable pub piece : ℕ → ℕ → List ℕ → List ℕ
 piece from to chunk = take (to - from) (drop from chunk)
+
+-- room for a line: a byte more than the longest has, so that a line that is too long is seen to be so
+abbrev pub lineRoom : ℕ
+lineRoom = suc longestLine
 
 -- as many of them as there is room for
 unfoldable pub kept : ℕ → ℕ → ℕ → List ℕ → List ℕ

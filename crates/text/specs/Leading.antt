@@ -4,14 +4,14 @@ use mathlib.Core.List.{List}
 use mathlib.Core.Path.{_≡_}
 use Prim.Native.Nat.{ℕ, _+_, _≤_, min}
 use lib.Dec.{leb, ltb}
-use lib.ListN.{length, drop}
+use lib.ListN.{length}
 use Rattle.text.specs.Gather.{piece}
 use Rattle.text.specs.Number.{isDigit, every, value}
-use Rattle.text.specs.Words.{run}
+use Rattle.text.specs.Words.{runEnd}
 
 -- where the digits from `from` on end, of which at most ten are taken
 unfoldable pub digitsEnd : List ℕ → ℕ → ℕ
-digitsEnd s from = min (from + 10) (from + run isDigit (drop from s))
+digitsEnd s from = min (from + 10) (runEnd isDigit s from)
 
 -- digits of the value x
 pub record DigitsIn (s : List ℕ) (from to x : ℕ) : Type 0 where

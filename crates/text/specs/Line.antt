@@ -38,9 +38,13 @@ says n s = cond (isEmpty (dropBlanks s) || eqb (getD s 0 0) 35) passedOver (fiel
 unfoldable pub textLength : List ℕ → ℕ
 textLength l = cond (eqb (getD l (length l - 1) 0) 13) (length l - 1) (length l)
 
--- a line of n numbers, of at most 1023 bytes
+-- the most bytes of a line that is read, without its line feed
+abbrev pub longestLine : ℕ
+longestLine = 1023
+
+-- a line of n numbers
 unfoldable pub readLineOf : ℕ → List ℕ → Said
-readLineOf n l = cond (ltb 1023 (length l)) unreadable (says n (take (textLength l) l))
+readLineOf n l = cond (ltb longestLine (length l)) unreadable (says n (take (textLength l) l))
 
 unfoldable pub readLine : List ℕ → Said
 readLine l = readLineOf width l

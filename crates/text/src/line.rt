@@ -1,13 +1,14 @@
 // A line read as a case.
 ghost use mathlib.Core.Path.{_≡_};
-ghost use Prim.Native.Nat.{_+_, _≤_};
-ghost use lib.ListN.{drop, length};
+ghost use Prim.Native.Nat.{_≤_};
+ghost use lib.ListN.{length};
 ghost use Rattle.text.specs.Answer.{answer, noCase};
 ghost use Rattle.text.specs.Gather.{piece};
 ghost use Rattle.text.specs.Line.{fields, readLine, says, textLength};
 ghost use Rattle.fields.specs.Fields.{width};
 ghost use Rattle.text.specs.Number.{readNumber};
-ghost use Rattle.text.specs.Words.{isInk, run};
+ghost use Rattle.text.specs.Words.{isInk, runEnd};
+use crate::number::LARGEST;
 use crate::number::Reading;
 use crate::number::is_number;
 use crate::number::leading_digits;
@@ -15,14 +16,16 @@ use crate::number::read_number;
 use crate::words::is_past_word;
 use crate::words::skip_blanks;
 use crate::words::skip_word;
+use fields::Case;
+use fields::WIDTH;
 
-// How many numbers a case has.
-pub const WIDTH: usize = 26;
+// The most bytes of a line that is read, without its line feed.
+pub const LONGEST: usize = 1023;
 
 // What a line says: 0 passed over, 1 a case with its numbers, 2 unreadable. The fields are 0 but in a case.
 pub struct Read {
     pub kind: u32,
-    pub fields: [u32; WIDTH],
+    pub fields: Case,
 }
 
 pub fn no_case(kind: u32) -> Read
@@ -43,13 +46,13 @@ struct Word {
 // The word at `from`. The usual word has digits alone and is passed over once; any other is passed to its end and then read.
 fn read_word(s: &[u8], from: usize) -> Word
     requires { ⌜ from ≤ length (now s) ⌝ }
-    ensures { λ r. ⌜ (r .to ≡ from + run isInk (drop from (now (s .entry))))
+    ensures { λ r. ⌜ (r .to ≡ runEnd isInk (now (s .entry)) from)
         × (r .said ≡ readNumber (piece from (r .to) (now (s .entry)))) ⌝ }
 {
     if 10 <= s.len() - from {
         let digits = leading_digits(s, from);
         let to = digits.to;
-        if is_number(from, to, digits.value, 4294967295) {
+        if is_number(from, to, digits.value, LARGEST) {
             if is_past_word(s, to) {
                 return Word {
                     to,
@@ -98,7 +101,7 @@ fn read_text(s: &[u8]) -> Read
     if s.len() <= skip_blanks(s, 0) {
         return no_case(0);
     }
-    if s[0] == 35 {
+    if s[0] == b'#' {
         return no_case(0);
     }
     read_fields(s)
@@ -112,7 +115,7 @@ fn text_length(line: &[u8]) -> usize
     if n == 0 {
         return 0;
     }
-    if line[n - 1] == 13 {
+    if line[n - 1] == b'\r' {
         return n - 1;
     }
     n
@@ -122,7 +125,7 @@ fn text_length(line: &[u8]) -> usize
 pub fn read_line(line: &[u8]) -> Read
     ensures { λ r. ⌜ r ≡ answer (readLine (now (line .entry))) ⌝ }
 {
-    if 1023 < line.len() {
+    if LONGEST < line.len() {
         return no_case(2);
     }
     let n = text_length(line);

@@ -18,7 +18,7 @@ use Rattle.text.specs.Number.{isDigit, every, valueFrom, value, readDigi
 use Rattle.text.specs.Laws.Number.{is-digit, every-append, every-at, every-weaker, differ, value-snoc, not-empty}
 use Rattle.text.specs.Laws.Pieces.{piece-none, piece-more, piece-length, piece-then}
 use Rattle.text.specs.Laws.Words.{digit-ink, run-past}
-use Rattle.text.specs.Words.{isInk, run}
+use Rattle.text.specs.Words.{isInk, run, runEnd}
 
 pub digits-near : (s : List ℕ) (from to : ℕ) → to ≡ digitsEnd s from → to ≤ from + 10
 unfolding digitsEnd
@@ -64,7 +64,7 @@ module _ (s : List ℕ) (from to x : ℕ) (d : DigitsIn s from to x) where
   size : length (piece from to s) ≡ to - from
   size = piece-length s from to (d .within)
 
-  pub word-ends : run isInk (drop to s) ≡ 0 → to ≡ from + run isInk (drop from s)
+  pub word-ends : run isInk (drop to s) ≡ 0 → to ≡ runEnd isInk s from
   word-ends h =
       let ink : run isInk (drop from s) ≡ to - from =
       ap (run isInk) (piece-then s from to (d .forward)) ∙ run-past isInk _ _ (every-weaker isDigit isInk digit-ink _ (d .digits)) h ∙ size

@@ -1,4 +1,5 @@
--- Laws of reading digits: which bytes are digits, what `every` says of each byte, and that a number in decimal is read back as itself. Assumes nothing.
+-- Laws of reading digits: which bytes are digits, what `every` says of each byte, and that a number in decimal is read back as itself.
+-- Assumes nothing.
 use mathlib.Core.Bool.{Bool, true, false, false≢true, and-false}
 use mathlib.Core.List.{List, [], _∷_, _++_}
 use mathlib.Core.Path.{_≡_, refl, sym, ap, _∙_}

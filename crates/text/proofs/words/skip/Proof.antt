@@ -28,25 +28,36 @@ Inv-loop s at blanks i₀ i = runEnd (isKind blanks) s at ≡ runEnd (isKind bla
 abbrev μ-loop : tie.MeasureT-loop
 μ-loop s at blanks i₀ i = length s - i
 
-returns : tie.Need-returns Inv-loop μ-loop
-returns c =
+at-another : tie.Need-returns Inv-loop μ-loop
+at-another c =
     let at-turn = c .before .before .before in
     let a = at-turn .before .before .before .args in
-    sym (at-turn .before .loop .inv ∙ run-stop (isKind (a .blanks)) (a .s .now) _ (at-turn .loop-test .taken) (kind-test _ _ (c .before .is-blank .ensures) (c .if1 .taken)))
+    let another = kind-test (a .blanks) _ (c .before .is-blank .ensures) (c .if1 .taken) in
+    sym (at-turn .before .loop .inv ∙ run-stop (isKind (a .blanks)) (a .s .now) _ (at-turn .loop-test .taken) another)
 
-loop-again : tie.Need-loop-again Inv-loop μ-loop
-loop-again c =
+past-one : tie.Need-loop-again Inv-loop μ-loop
+past-one c =
     let at-turn = c .before .before .before in
     let a = at-turn .before .before .before .args in
-    at-turn .before .loop .inv ∙ run-more (isKind (a .blanks)) (a .s .now) _ (at-turn .loop-test .taken) (kind-test _ _ (c .before .is-blank .ensures) (c .if1 .left))
+    let one = kind-test (a .blanks) _ (c .before .is-blank .ensures) (c .if1 .left) in
+    at-turn .before .loop .inv ∙ run-more (isKind (a .blanks)) (a .s .now) _ (at-turn .loop-test .taken) one
 
-returns-2 : tie.Need-returns-2 Inv-loop μ-loop
-returns-2 c =
+at-the-end : tie.Need-returns-2 Inv-loop μ-loop
+at-the-end c =
     let a = c .before .before .before .args in
     sym (c .before .loop .inv ∙ run-end (isKind (a .blanks)) (a .s .now) _ (c .loop-test .left))
 
 pub skip-spec : {M : Type 1} → statement M
 skip-spec =
     tie.close
-    (tie.spec Inv-loop μ-loop (λ c. refl) (λ c. c .before .loop-test .taken) (λ c κs. tt) returns (λ c. omega arith) (λ c. omega arith) loop-again
-    returns-2)
+    (tie.spec
+    Inv-loop
+    μ-loop
+    (λ c. refl)
+    (λ c. c .before .loop-test .taken)
+    (λ c κs. tt)
+    at-another
+    (λ c. omega arith)
+    (λ c. omega arith)
+    past-one
+    at-the-end)

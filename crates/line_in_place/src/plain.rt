@@ -7,14 +7,15 @@ ghost use lib.ListN.{getD, length};
 ghost use Rattle.line_in_place.specs.Plain.{PlainLine, longest};
 ghost use Rattle.fields.specs.Fields.{width};
 use crate::number::number_at;
-use text::line::WIDTH;
+use fields::Case;
+use fields::WIDTH;
 use text::words::is_blank;
 
 // The numbers of a case, if they were found, and where the line feed after them stands.
 pub(crate) struct Plain {
     pub(crate) found: bool,
     pub(crate) to: usize,
-    pub(crate) fields: [u32; WIDTH],
+    pub(crate) fields: Case,
 }
 
 fn not_plain() -> Plain
@@ -45,7 +46,7 @@ fn past_return(s: &[u8], at: usize) -> usize
     requires { ⌜ at < length (now s) ⌝ }
     ensures { λ r. ⌜ r ≡ cond (eqb (getD (now (s .entry)) at 0) 13) (at + 1) at ⌝ }
 {
-    if s[at] == 13 { at + 1 } else { at }
+    if s[at] == b'\r' { at + 1 } else { at }
 }
 
 // The line from `from` on, if it is a case with one blank between two numbers and none at its ends.
@@ -76,7 +77,7 @@ pub(crate) fn plain_line(s: &[u8], from: usize) -> Plain
         return not_plain();
     }
     let end = past_return(s, last.to);
-    if s[end] != 10 {
+    if s[end] != b'\n' {
         return not_plain();
     }
     fields[WIDTH - 1] = last.value;

@@ -41,7 +41,7 @@ unfolding isBlank
 row = row-more (row-none chunk 0) seven refl
 
 line : PlainLine 2 chunk 0 5 (7 ∷ 4294967295 ∷ [])
-line = row-ends row minus-one (lit≤ tt) 5 (lit< tt) refl refl
+line = row-ends row minus-one (lit< tt) 5 (lit< tt) refl refl
 
 whole : lineOf true 5 (answer (readLine (piece 0 5 chunk))) ≡ standing chunk 0
 whole = stands-whole chunk 0 5 _ (line .end) (lit< tt) refl

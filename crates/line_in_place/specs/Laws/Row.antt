@@ -15,7 +15,7 @@ use Rattle.line_in_place.specs.Laws.Standing.{line-ends}
 use Rattle.text.specs.Laws.After.{after, after-one, after-none}
 use Rattle.text.specs.declared.number.Reading.{Reading}
 use Rattle.text.specs.Gather.{isInLine, piece}
-use Rattle.text.specs.Line.{aCase, field, fields, readLineOf}
+use Rattle.text.specs.Line.{aCase, field, fields, longestLine, readLineOf}
 use Rattle.text.specs.Number.{isDigit, every, isNumeral}
 use Rattle.text.specs.Laws.Number.{every-append, every-weaker, differ}
 use Rattle.text.specs.Laws.Pieces.{piece-none, piece-more, piece-join, piece-length}
@@ -34,7 +34,8 @@ row-none s from =
     record {
       forward = le-refl from;
       plain = ap (every isPlain) (piece-none s from);
-      read = λ k t. ap (λ (n : ℕ). fields n (piece from from s ++ t)) (zero-add k) ∙ ap (λ (p : List ℕ). fields k (p ++ t)) (piece-none s from);
+      read = λ k t.
+          ap (λ (n : ℕ). fields n (piece from from s ++ t)) (zero-add k) ∙ ap (λ (p : List ℕ). fields k (p ++ t)) (piece-none s from);
     }
 
 -- a byte that passes a test after bytes that do
@@ -124,7 +125,7 @@ module _ {s : List ℕ} {from at i : ℕ} {xs : List ℕ} (row : Row s from at i
   line-in-line = every-weaker isPlain isInLine plain-in-line line line-plain
 
   -- a line feed after it, or a carriage return and a line feed: the row is a line
-  module _ (short : to ≤ from + 1022) (end : ℕ) (inside : end < length s) (feed : getD s end 0 ≡ 10) where
+  module _ (short : to < from + longestLine) (end : ℕ) (inside : end < length s) (feed : getD s end 0 ≡ 10) where
     size : length line ≡ to - from
     unfolding line
     size = piece-length s from to (omega (arith, next .inside))

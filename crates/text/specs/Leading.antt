@@ -20,6 +20,11 @@ pub record DigitsIn (s : List ℕ) (from to x : ℕ) : Type 0 where
   pub digits : every isDigit (piece from to s) ≡ true
   pub amount : value (piece from to s) ≡ x
 
+-- all digits from `from` on, or ten of them
+pub record LeadingDigits (s : List ℕ) (from to x : ℕ) : Type 0 where
+  pub end : to ≡ digitsEnd s from
+  pub digits : DigitsIn s from to x
+
 -- whether digits from `from` to `to`, of the value x, are a number of at most `limit`
 unfoldable pub isNumber : ℕ → ℕ → ℕ → ℕ → Bool
 isNumber from to x limit = ltb from to && leb x limit

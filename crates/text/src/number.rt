@@ -2,7 +2,7 @@
 ghost use mathlib.Core.Path.{_≡_};
 ghost use Prim.Native.Nat.{_+_, _≤_};
 ghost use lib.ListN.{length};
-ghost use Rattle.text.specs.Leading.{DigitsIn, digitsEnd, isNumber};
+ghost use Rattle.text.specs.Leading.{LeadingDigits, isNumber};
 ghost use Rattle.text.specs.Number.{readDigits, readNumber};
 
 // What a word says.
@@ -69,7 +69,7 @@ pub struct Leading {
 // that no limit is tried on the way, and the compiler writes the loop out.
 pub fn leading_digits(s: &[u8], from: usize) -> Leading
     requires { ⌜ from + 10 ≤ length (now s) ⌝ }
-    ensures { λ r. ⌜ (r .to ≡ digitsEnd (now (s .entry)) from) × DigitsIn (now (s .entry)) from (r .to) (r .value) ⌝ }
+    ensures { λ r. ⌜ LeadingDigits (now (s .entry)) from (r .to) (r .value) ⌝ }
 {
     let mut value: u64 = 0;
     let mut i: usize = 0;

@@ -26,15 +26,23 @@ seven : NumberAt chunk 0 1 7
 unfolding piece every isDigit value valueFrom
 seven =
     without-sign (lit≤ tt)
-    (record { forward = lit≤ tt; within = lit≤ tt; digits = refl; amount = refl })
-    (lit< tt) (lit≤ tt) (lit≤ tt)
+    (record {
+      digits = record { forward = lit≤ tt; within = lit≤ tt; digits = refl; amount = refl };
+      some = lit< tt;
+      near = lit≤ tt;
+      fits = lit≤ tt;
+    })
 
 minus-one : NumberAt chunk 2 4 4294967295
 unfolding piece every isDigit value valueFrom
 minus-one =
     with-sign (lit≤ tt) refl
-    (record { forward = lit≤ tt; within = lit≤ tt; digits = refl; amount = refl })
-    (lit< tt) (lit≤ tt) (lit≤ tt)
+    (record {
+      digits = record { forward = lit≤ tt; within = lit≤ tt; digits = refl; amount = refl };
+      some = lit< tt;
+      near = lit≤ tt;
+      fits = lit≤ tt;
+    })
 
 row : Row chunk 0 2 1 (7 ∷ [])
 unfolding isBlank

@@ -1,8 +1,8 @@
 -- Digits that stand in a line from one place to another: how a loop that reads them goes on by one, and that they are a word, and what
 -- it says, where no word goes on after them. Assumes nothing.
-use mathlib.Core.Bool.{true}
+use mathlib.Core.Bool.{Bool, true}
 use mathlib.Core.List.{List, [], _∷_}
-use mathlib.Core.Path.{_≡_, refl, ap, _∙_}
+use mathlib.Core.Path.{_≡_, refl, sym, ap, _∙_}
 use Prim.Native.Nat.{ℕ, _+_, _-_, _*_, _^_, _≤_, _<_}
 use native.Mathlib.Nat.{le-refl, lt-of-lt-of-le, pow-suc, pow-le-pow-right}
 use native.Mathlib.Numerals.{add-one}
@@ -13,16 +13,12 @@ use lib.ListN.{length, getD, drop}
 use Rattle.bools.specs.Tests.{both}
 use Rattle.text.specs.declared.number.Reading.the-variants.{Number}
 use Rattle.text.specs.Gather.{piece}
-use Rattle.text.specs.Leading.{digitsEnd, DigitsIn, isNumber}
+use Rattle.text.specs.Leading.{digitsEnd, DigitsIn, LeadingDigits, isNumber}
 use Rattle.text.specs.Number.{isDigit, every, valueFrom, value, readDigits, readNumber}
 use Rattle.text.specs.Laws.Number.{is-digit, every-append, every-at, every-weaker, differ, value-snoc, not-empty}
 use Rattle.text.specs.Laws.Pieces.{piece-none, piece-more, piece-length, piece-then}
 use Rattle.text.specs.Laws.Words.{digit-ink, run-past}
 use Rattle.text.specs.Words.{isInk, run, runEnd}
-
-pub digits-near : (s : List ℕ) (from to : ℕ) → to ≡ digitsEnd s from → to ≤ from + 10
-unfolding digitsEnd
-digits-near s from to e = omega arith
 
 pub digits-none : (s : List ℕ) (from : ℕ) → from ≤ length s → DigitsIn s from from 0
 unfolding every value valueFrom
@@ -47,11 +43,25 @@ digits-more s from i x d k low high =
       amount = ap value more ∙ value-snoc 0 (piece from i s) b ∙ ap (λ (v : ℕ). v * 10 + (b - 48)) (d .amount);
     }
 
-pub number-test : (from to x limit : ℕ) → isNumber from to x limit ≡ true → (from < to) × (x ≤ limit)
-unfolding isNumber
-number-test from to x limit e =
-    let tests = both (ltb from to) (leb x limit) e in
-    (ltb-true from to (tests .0), leb-true x limit (tests .1))
+-- digits that are a number of at most `limit`
+pub record NumberIn (s : List ℕ) (from to x limit : ℕ) : Type 0 where
+  pub digits : DigitsIn s from to x
+  pub some : from < to
+  pub near : to ≤ from + 10
+  pub fits : x ≤ limit
+
+-- what the test of leading digits says
+pub number-in : {s : List ℕ} {from to x : ℕ} {tested : Bool} (limit : ℕ) → LeadingDigits s from to x
+    → tested ≡ isNumber from to x limit → tested ≡ true → NumberIn s from to x limit
+unfolding isNumber digitsEnd
+number-in {from = from} {to} {x} limit leading e h =
+    let tests = both (ltb from to) (leb x limit) (sym e ∙ h) in
+    record {
+      digits = leading .digits;
+      some = ltb-true from to (tests .0);
+      near = let end = leading .end in omega arith;
+      fits = leb-true x limit (tests .1);
+    }
 
 -- after i digits a value is below 10^i
 pub small-more : (i x b : ℕ) → x < 10 ^ i → b ≤ 57 → x * 10 + (b - 48) < 10 ^ (i + 1)
@@ -71,15 +81,20 @@ module _ (s : List ℕ) (from to x : ℕ) (d : DigitsIn s from to x) where
       in
       omega arith
 
-  some : from < to → 0 < length (piece from to s)
-  some h = omega (arith, size)
+module _ {s : List ℕ} {from to x limit : ℕ} (number : NumberIn s from to x limit) where
+  word : List ℕ
+  word = piece from to s
 
-  pub digits-say : (limit : ℕ) → from < to → x ≤ limit → readDigits limit (piece from to s) ≡ Number x
-  unfolding readDigits
-  digits-say limit h fits = simp (not-empty (piece from to s) (some h), d .digits, d .amount, le-leb x limit fits)
+  word-some : 0 < length word
+  unfolding word
+  word-some = omega (arith, size s from to x (number .digits), number .some)
 
-  pub word-says : from < to → x ≤ 4294967295 → readNumber (piece from to s) ≡ Number x
-  unfolding readNumber isDigit
-  word-says h fits =
-      let first = every-at isDigit (piece from to s) (d .digits) 0 (some h) in
-      rw (ne-eqb _ 45 (differ isDigit _ 45 first refl)) (digits-say 4294967295 h fits)
+  pub digits-say : readDigits limit (piece from to s) ≡ Number x
+  unfolding readDigits word
+  digits-say = simp (not-empty word word-some, number .digits .digits, number .digits .amount, le-leb x limit (number .fits))
+
+pub word-says : {s : List ℕ} {from to x : ℕ} → NumberIn s from to x 4294967295 → readNumber (piece from to s) ≡ Number x
+unfolding readNumber isDigit word
+word-says {s} {from} {to} number =
+    let first = every-at isDigit (piece from to s) (number .digits .digits) 0 (word-some number) in
+    rw (ne-eqb _ 45 (differ isDigit _ 45 first refl)) (digits-say number)

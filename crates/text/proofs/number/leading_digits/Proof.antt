@@ -88,7 +88,7 @@ all-read c =
     (λ w. no-digit on (inside (w .0 .taken)) (is-above-digits _ (w .3 .taken))))
     (c .loop-test .came)
     in
-    (ended, on .digits)
+    record { end = ended; digits = on .digits }
 
 pub leading-digits-spec : {M : Type 1} → statement M
 leading-digits-spec =

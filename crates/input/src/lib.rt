@@ -1,5 +1,6 @@
-// Standard input, line by line, in two buffers that the caller lends: a chunk as it was read, and the line that is gathered from
-// chunks. Memory does not grow with the input, and a budget of reads makes every loop end.
+// Standard input, line by line, in two buffers that the caller lends: a chunk as it was read, and the
+// line that is gathered from chunks. Memory does not grow with the input, and a budget of reads makes
+// every loop end.
 ghost use mathlib.Core.Bool.{true};
 ghost use mathlib.Core.Path.{_≡_};
 ghost use Prim.Native.Nat.{_≤_};
@@ -7,10 +8,14 @@ ghost use lib.ListN.{length, take};
 ghost use Rattle.input.specs.State.{Ready, Given, saidHere};
 ghost use Rattle.line_in_place.specs.Standing.{standing};
 use line_in_place::read_at;
+use text::gather::ROOM;
 use text::gather::keep;
 use text::gather::line_feed;
 use text::line::Read;
 use text::line::read_line;
+
+// Room for a line, in the buffer that a program lends for it.
+pub const LINE: usize = ROOM;
 
 // Where reading stands: the chunk's bytes from `at` to `end` are still to come, and so many reads are left.
 pub struct Input {
@@ -115,7 +120,8 @@ pub fn next_line(chunk: &mut [u8], line: &mut [u8], from: Input) -> Line
     last(len)
 }
 
-// What the next line says. A line that the chunk has to its line feed is read there, and any other is gathered in `line` first.
+// What the next line says. A line that the chunk has to its line feed is read there, and any other is
+// gathered in `line` first.
 pub fn next_said(chunk: &mut [u8], line: &mut [u8], from: Input) -> Said
     requires { ⌜ Ready from (length (now chunk)) ⌝ }
     ensures { λ r. ⌜ Ready (r .next) (length (now (chunk .exit))) ⌝ }

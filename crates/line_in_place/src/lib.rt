@@ -7,6 +7,8 @@ ghost use mathlib.Core.Path.{_≡_};
 ghost use Rattle.line_in_place.specs.Standing.{standing};
 use plain::plain_line;
 use text::gather::line_feed;
+use text::line::CASE;
+use text::line::PASSED_OVER;
 use text::line::Read;
 use text::line::no_case;
 use text::line::read_line;
@@ -34,7 +36,7 @@ fn any_line(chunk: &[u8], from: usize) -> Line
     Line {
         whole: false,
         to,
-        said: no_case(0),
+        said: no_case(PASSED_OVER),
     }
 }
 
@@ -48,7 +50,7 @@ pub fn read_at(chunk: &[u8], from: usize) -> Line
         return Line {
             whole: true,
             to: plain.to,
-            said: Read { kind: 1, fields },
+            said: Read { kind: CASE, fields },
         };
     }
     any_line(chunk, from)

@@ -22,7 +22,14 @@ use fields::WIDTH;
 // The most bytes of a line that is read, without its line feed.
 pub const LONGEST: usize = 1023;
 
-// What a line says: 0 passed over, 1 a case with its numbers, 2 unreadable. The fields are 0 but in a case.
+// What a line is.
+pub const PASSED_OVER: u32 = 0;
+
+pub const CASE: u32 = 1;
+
+pub const UNREADABLE: u32 = 2;
+
+// What a line says: what it is, and the numbers of a case. The fields are 0 but in a case.
 pub struct Read {
     pub kind: u32,
     pub fields: Case,
@@ -82,16 +89,16 @@ fn read_fields(s: &[u8]) -> Read
                 fields[i] = x;
             }
             Reading::Nothing => {
-                return no_case(2);
+                return no_case(UNREADABLE);
             }
         }
         at = word.to;
         i += 1;
     }
     if skip_blanks(s, at) < s.len() {
-        return no_case(2);
+        return no_case(UNREADABLE);
     }
-    Read { kind: 1, fields }
+    Read { kind: CASE, fields }
 }
 
 // A line with no carriage return at its end.
@@ -99,10 +106,10 @@ fn read_text(s: &[u8]) -> Read
     ensures { λ r. ⌜ r ≡ answer (says width (now (s .entry))) ⌝ }
 {
     if s.len() <= skip_blanks(s, 0) {
-        return no_case(0);
+        return no_case(PASSED_OVER);
     }
     if s[0] == b'#' {
-        return no_case(0);
+        return no_case(PASSED_OVER);
     }
     read_fields(s)
 }
@@ -126,7 +133,7 @@ pub fn read_line(line: &[u8]) -> Read
     ensures { λ r. ⌜ r ≡ answer (readLine (now (line .entry))) ⌝ }
 {
     if LONGEST < line.len() {
-        return no_case(2);
+        return no_case(UNREADABLE);
     }
     let n = text_length(line);
     read_text(&line[..n])

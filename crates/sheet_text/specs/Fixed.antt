@@ -2,7 +2,7 @@
 use mathlib.Core.Bool.{cond}
 use mathlib.Core.List.{List, _∷_, _++_}
 use Prim.Native.Nat.{ℕ, zero, suc, _/_, _%_, _^_}
-use lib.IntN.{ℤ, pos, negℤ, ℤ, pos, negℤ}
+use lib.IntN.{ℤ, pos, negℤ}
 use Rattle.decimals.specs.Decimal.{decimal, padded}
 use Rattle.sheet_text.specs.declared.fixed.Value.{Value}
 

@@ -56,7 +56,8 @@ fn power_of_ten(n: usize) -> u64
 // point are written with a one in front of them, which keeps their zeros; the point then takes the one's place.
 pub fn put_fixed(out: &mut [u8], at: usize, x: u64, decimals: usize) -> usize
     requires { ⌜ (at + 40 ≤ length (now out)) × (decimals ≤ 16) ⌝ }
-    ensures { λ r. ⌜ (r ≡ at + length (fixed decimals x)) × (now (out .exit) ≡ splice (now (out .entry)) at (fixed decimals x)) ⌝ }
+    ensures { λ r. ⌜ (r ≡ at + length (fixed decimals x))
+        × (now (out .exit) ≡ splice (now (out .entry)) at (fixed decimals x)) ⌝ }
 {
     if decimals == 0 {
         return put_decimal(out, at, x);
@@ -71,7 +72,8 @@ pub fn put_fixed(out: &mut [u8], at: usize, x: u64, decimals: usize) -> usize
 // The same with a minus sign where the value is below zero.
 pub fn put_signed(out: &mut [u8], at: usize, v: Value, decimals: usize) -> usize
     requires { ⌜ (at + 41 ≤ length (now out)) × (decimals ≤ 16) ⌝ }
-    ensures { λ r. ⌜ (r ≡ at + length (signed decimals v)) × (now (out .exit) ≡ splice (now (out .entry)) at (signed decimals v)) ⌝ }
+    ensures { λ r. ⌜ (r ≡ at + length (signed decimals v))
+        × (now (out .exit) ≡ splice (now (out .entry)) at (signed decimals v)) ⌝ }
 {
     if v.negative {
         let digits = put_byte(out, at, b'-');

@@ -39,13 +39,13 @@ fn turn(t: Tally, out: &mut [u8], number: u64, line: &[u8], len: usize) -> Tally
         return t.waiting(text, rating_of(part));
     }
     if expected::is_range(part) {
-        return t.published(expected::is_within(part, t.rating));
+        return t.compared(true, expected::is_within(part, t.rating));
     }
-    t.compared(expected::is_same(&out[..printed], part))
+    t.compared(false, expected::is_same(&out[..printed], part))
 }
 
 // Each line in turn, and how many comparisons were made.
-fn compare_lines(chunk: &mut [u8], line: &mut [u8], out: &mut [u8]) -> Tally
+fn compare(chunk: &mut [u8], line: &mut [u8], out: &mut [u8]) -> Tally
     requires { ⌜ lineRoom ≤ length (now out) ⌝ }
 {
     let mut from = input::start();
@@ -72,7 +72,7 @@ fn main() {
     let mut chunk = io::large_buffer();
     let mut line = [0u8; input::LINE];
     let mut out = io::large_buffer();
-    let t = compare_lines(&mut chunk, &mut line, &mut out);
+    let t = compare(&mut chunk, &mut line, &mut out);
     let cases = t.cases;
     say(cases.made, b" cases compared, ");
     say(cases.failed, b" differ\n");

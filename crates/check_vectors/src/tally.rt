@@ -35,11 +35,11 @@ fn more(count: u64, is_counted: bool) -> u64 {
     count
 }
 
-// One more comparison.
-fn counted(count: Count, is_right: bool) -> Count {
+// One more comparison, where it is of the kind that is counted.
+fn counted(count: Count, is_counted: bool, is_right: bool) -> Count {
     Count {
-        made: more(count.made, true),
-        failed: more(count.failed, !is_right),
+        made: more(count.made, is_counted),
+        failed: more(count.failed, is_counted & !is_right),
     }
 }
 
@@ -57,8 +57,8 @@ impl Tally {
         }
     }
 
-    // The waiting case was compared with a line.
-    pub fn compared(self, is_same: bool) -> Self
+    // The waiting case was compared, with a range of its rating or with a line.
+    pub fn compared(self, with_range: bool, is_right: bool) -> Self
         ensures { λ r. ⌜ r .printed ≡ 0 ⌝ }
     {
         let cases = self.cases;
@@ -66,22 +66,8 @@ impl Tally {
         Tally {
             printed: 0,
             rating: 0,
-            cases: counted(cases, is_same),
-            ranges,
-        }
-    }
-
-    // The waiting case's rating was compared with a range.
-    pub fn published(self, is_within: bool) -> Self
-        ensures { λ r. ⌜ r .printed ≡ 0 ⌝ }
-    {
-        let cases = self.cases;
-        let ranges = self.ranges;
-        Tally {
-            printed: 0,
-            rating: 0,
-            cases,
-            ranges: counted(ranges, is_within),
+            cases: counted(cases, !with_range, is_right),
+            ranges: counted(ranges, with_range, is_right),
         }
     }
 }

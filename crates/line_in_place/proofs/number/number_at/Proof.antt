@@ -12,12 +12,6 @@ fits c =
     let test = c .before .before in
     omega (arith, number-in _ (test .before .leading-digits .ensures) (test .is-number .ensures) (c .before .if1 .taken) .fits)
 
-digits-alone : tie.Need-returns
-digits-alone c found =
-    let test = c .before .before in
-    let number = number-in _ (test .before .leading-digits .ensures) (test .is-number .ensures) (c .before .if1 .taken) in
-    without-sign (test .before .before .before .pre) number
-
 pub number-at-spec : {M : Type 1} → statement M
 number-at-spec =
     tie.close
@@ -25,6 +19,7 @@ number-at-spec =
     (λ c κs. search needs)
     (λ c κs. search needs)
     fits
-    digits-alone
+    (λ c found. without-sign (c .before .before .before .before .before .pre)
+    (number-in _ (c .before .before .before .leading-digits .ensures) (c .before .before .is-number .ensures) (c .before .if1 .taken)))
     (λ c κs. search needs)
     (λ c. search needs))

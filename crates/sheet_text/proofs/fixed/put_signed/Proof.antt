@@ -1,25 +1,30 @@
 -- `sheet_text::fixed::put_signed` meets its contract: the sign, and the digits after it.
 -- Assumes nothing.
-use mathlib.Core.List.{[], _∷_}
+use mathlib.Core.Bool.{true, false}
+use mathlib.Core.List.{[], _∷_, _++_}
+use mathlib.Core.Path.{_≡_}
+use Prim.Native.Nat.{ℕ}
 use native.Mathlib.Omega.{arith}
 use borrow.Author.Needs.{needs}
+use Rattle.sheet_text.specs.declared.fixed.Value.{Value}
 use Rattle.sheet_text.specs.Fixed.{fixed, signed}
-use Rattle.splice.specs.Put.{put-then}
+use Rattle.splice.specs.Put.{put-as, put-then}
 use Rattle.sheet_text.proofs.fixed.put_signed.Statement.{statement}
 use Rattle.sheet_text.proofs.fixed.put_signed.Tie as tie
 
-below-zero : tie.Need-returns
+with-minus : (d : ℕ) (v : Value) → v .negative ≡ true → (45 ∷ []) ++ fixed d (v .size) ≡ signed d v
 unfolding signed
+with-minus d v h = rw h
+
+without-minus : (d : ℕ) (v : Value) → v .negative ≡ false → fixed d (v .size) ≡ signed d v
+unfolding signed
+without-minus d v h = rw h
+
+below-zero : tie.Need-returns
 below-zero c =
     let byte = c .before .before .before .before .before .before in
-    let start = byte .before .before .before .before in
-    rw (byte .before .before .if1 .taken)
-    (put-then _ _ (45 ∷ []) (fixed (start .args .decimals) (start .args .v .size)) (omega arith) (byte .put-byte .ensures)
-    (c .before .before .put-fixed .ensures))
-
-not-below : tie.Need-returns-2
-unfolding signed
-not-below c = rw (c .before .before .before .before .if1 .left) (c .before .before .put-fixed2 .ensures)
+    put-as _ _ (with-minus _ _ (byte .before .before .if1 .taken))
+    (put-then _ _ (45 ∷ []) _ (omega arith) (byte .put-byte .ensures) (c .before .before .put-fixed .ensures))
 
 pub put-signed-spec : {M : Type 1} → statement M
 put-signed-spec =
@@ -31,4 +36,4 @@ put-signed-spec =
     below-zero
     (λ c κs. search needs)
     (λ c. search needs)
-    not-below)
+    (λ c. put-as _ _ (without-minus _ _ (c .before .before .before .before .if1 .left)) (c .before .before .put-fixed2 .ensures)))

@@ -14,12 +14,14 @@ use Rattle.text.proofs.line.read_word.Tie as tie
 fits : tie.Need-cast-t12
 fits c =
     let tested = c .before .before .before in
-    omega (arith, number-in _ (tested .before .before .leading-digits .ensures) (tested .before .is-number .ensures) (tested .if2 .taken) .fits)
+    let leading = tested .before .before .leading-digits .ensures in
+    omega (arith, number-in _ leading (tested .before .is-number .ensures) (tested .if2 .taken) .fits)
 
 digits-alone : tie.Need-returns
 digits-alone c =
     let tested = c .before .before .before in
-    let number = number-in _ (tested .before .before .leading-digits .ensures) (tested .before .is-number .ensures) (tested .if2 .taken) in
+    let leading = tested .before .before .leading-digits .ensures in
+    let number = number-in _ leading (tested .before .is-number .ensures) (tested .if2 .taken) in
     let past = c .before .before .is-past-word .ensures (c .before .if3 .taken) in
     (word-ends _ _ _ _ (number .digits) past, sym (word-says number))
 

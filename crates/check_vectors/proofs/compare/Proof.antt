@@ -1,4 +1,4 @@
--- `compare_lines` keeps its positions within the three buffers. The invariant: reading does, and the waiting case's text is within
+-- `compare` keeps its positions within the three buffers. The invariant: reading does, and the waiting case's text is within
 -- `out`. The measure is the count of lines that may still come.
 use Prim.Native.Nat.{_≤_}
 use mathlib.Core.Path.{_≡_}
@@ -6,8 +6,8 @@ use lib.ListN.{length}
 use borrow.Author.Needs.{needs}
 use Rattle.input.specs.State.{Reading, linesLeft}
 use Rattle.rate_text.specs.Answers.{lineRoom}
-use Rattle.check_vectors.proofs.compare_lines.Statement.{statement}
-use Rattle.check_vectors.proofs.compare_lines.Tie as tie
+use Rattle.check_vectors.proofs.compare.Statement.{statement}
+use Rattle.check_vectors.proofs.compare.Tie as tie
 
 abbrev Inv-loop : tie.InvT-loop
 Inv-loop chunk₀ line₀ out₀ from₀ t₀ number₀ chunk line out from t number =
@@ -16,8 +16,8 @@ Inv-loop chunk₀ line₀ out₀ from₀ t₀ number₀ chunk line out from t nu
 abbrev μ-loop : tie.MeasureT-loop
 μ-loop chunk₀ line₀ out₀ from₀ t₀ number₀ chunk line out from t number = linesLeft number
 
-pub compare-lines-spec : {M : Type 1} → statement M
-compare-lines-spec =
+pub compare-spec : {M : Type 1} → statement M
+compare-spec =
     tie.close
     (tie.spec
     Inv-loop

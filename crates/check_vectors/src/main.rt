@@ -5,7 +5,7 @@
 // compared byte by byte, so lines are read by their bytes here, and not by what they say.
 ghost use Prim.Native.Nat.{_≤_};
 ghost use lib.ListN.{length};
-ghost use Rattle.rate_text.specs.Answers.{lineRoom};
+ghost use Rattle.rate_text.specs.Answers.{answerRoom};
 
 mod expected;
 mod tally;
@@ -29,8 +29,8 @@ fn rating_of(line: &[u8]) -> u64 {
 
 // A line is a case, whose text is then put into `out`, or what the case before it must get.
 fn turn(t: Tally, out: &mut [u8], number: u64, line: &[u8], len: usize) -> Tally
-    requires { ⌜ (lineRoom ≤ length (now out)) × (t .printed ≤ lineRoom) × (len ≤ length (now line)) ⌝ }
-    ensures { λ r. ⌜ r .printed ≤ lineRoom ⌝ }
+    requires { ⌜ (answerRoom ≤ length (now out)) × (t .printed ≤ answerRoom) × (len ≤ length (now line)) ⌝ }
+    ensures { λ r. ⌜ r .printed ≤ answerRoom ⌝ }
 {
     let part = &line[..len];
     let printed = t.printed;
@@ -46,7 +46,7 @@ fn turn(t: Tally, out: &mut [u8], number: u64, line: &[u8], len: usize) -> Tally
 
 // Each line in turn, and how many comparisons were made.
 fn compare(chunk: &mut [u8], line: &mut [u8], out: &mut [u8]) -> Tally
-    requires { ⌜ lineRoom ≤ length (now out) ⌝ }
+    requires { ⌜ answerRoom ≤ length (now out) ⌝ }
 {
     let mut from = input::start();
     let mut t = nothing();

@@ -6,8 +6,8 @@ use mathlib.Core.Path.{_≡_}
 use Prim.Native.Nat.{ℕ, _+_, _-_, _≤_}
 use lib.ListN.{length}
 use Rattle.input.specs.declared.Input.{Input}
-use Rattle.input.specs.declared.Line.{Line}
-use Rattle.input.specs.declared.Said.{Said}
+use Rattle.input.specs.declared.NextLine.{NextLine}
+use Rattle.input.specs.declared.NextSaid.{NextSaid}
 use Rattle.line_in_place.specs.declared.Line as standing
 
 -- a position within a chunk of n bytes
@@ -16,17 +16,17 @@ pub record Ready (i : Input) (n : ℕ) : Type 0 where
   pub inside : i .end ≤ n
 
 -- the line is within its buffer, and the next position within its chunk
-pub record Given (l : Line) (n m : ℕ) : Type 0 where
+pub record Given (l : NextLine) (n m : ℕ) : Type 0 where
   pub fits : l .len ≤ m
   pub ready : Ready (l .next) n
 
 -- what is said of a line that stands whole in the chunk, and the place past its line feed
-unfoldable pub saidHere : standing.Line → Input → Said
+unfoldable pub saidHere : standing.Line → Input → NextSaid
 saidHere here from =
     record { found = true; said = here .said; next = record { at = here .to + 1; end = from .end; reads = from .reads } }
 
 -- what a loop over the lines keeps: reading stands within the chunk, and neither buffer changes its length
-pub record Reading (from : Input) (chunk₀ line₀ chunk line : List ℕ) : Type 0 where
+pub record BuffersKept (from : Input) (chunk₀ line₀ chunk line : List ℕ) : Type 0 where
   pub ready : Ready from (length chunk)
   pub chunk-length : length chunk ≡ length chunk₀
   pub line-length : length line ≡ length line₀

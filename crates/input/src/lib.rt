@@ -25,14 +25,14 @@ pub struct Input {
 }
 
 // The line's length, if there was one: a line feed ends it, or the end of the input after at least one byte.
-pub struct Line {
+pub struct NextLine {
     pub found: bool,
     pub len: usize,
     pub next: Input,
 }
 
 // What the line says, if there was one.
-pub struct Said {
+pub struct NextSaid {
     pub found: bool,
     pub said: Read,
     pub next: Input,
@@ -73,10 +73,10 @@ fn refill(chunk: &mut [u8]) -> usize
 }
 
 // What is left of the line at the end of the input, if anything is.
-fn last(len: usize) -> Line
+fn last(len: usize) -> NextLine
     ensures { λ r. ⌜ (r .len ≡ len) × (r .next .at ≡ 0) × (r .next .end ≡ 0) ⌝ }
 {
-    Line {
+    NextLine {
         found: 0 < len,
         len,
         next: Input {
@@ -88,7 +88,7 @@ fn last(len: usize) -> Line
 }
 
 // The next line, without its line feed, at the front of `line`; of a longer one as much as fits.
-pub fn next_line(chunk: &mut [u8], line: &mut [u8], from: Input) -> Line
+pub fn next_line(chunk: &mut [u8], line: &mut [u8], from: Input) -> NextLine
     requires { ⌜ Ready from (length (now chunk)) ⌝ }
     ensures { λ r. ⌜ Given r (length (now (chunk .exit))) (length (now (line .exit))) ⌝ }
 {
@@ -100,7 +100,7 @@ pub fn next_line(chunk: &mut [u8], line: &mut [u8], from: Input) -> Line
         let g = gather(chunk, line, len, at, end);
         len = g.len;
         if g.stop < end {
-            return Line {
+            return NextLine {
                 found: true,
                 len,
                 next: Input {
@@ -122,7 +122,7 @@ pub fn next_line(chunk: &mut [u8], line: &mut [u8], from: Input) -> Line
 
 // What the next line says. A line that the chunk has to its line feed is read there, and any other is
 // gathered in `line` first.
-pub fn next_said(chunk: &mut [u8], line: &mut [u8], from: Input) -> Said
+pub fn next_said(chunk: &mut [u8], line: &mut [u8], from: Input) -> NextSaid
     requires { ⌜ Ready from (length (now chunk)) ⌝ }
     ensures { λ r. ⌜ Ready (r .next) (length (now (chunk .exit))) ⌝ }
     ensures { λ r. ⌜ (let here = standing (take (from .end) (now (chunk .entry))) (from .at) in
@@ -133,7 +133,7 @@ pub fn next_said(chunk: &mut [u8], line: &mut [u8], from: Input) -> Said
     let here = read_at(&chunk[..end], at);
     if here.whole {
         let said = here.said;
-        return Said {
+        return NextSaid {
             found: true,
             said,
             next: Input {
@@ -146,7 +146,7 @@ pub fn next_said(chunk: &mut [u8], line: &mut [u8], from: Input) -> Said
     let got = next_line(chunk, line, from);
     let len = got.len;
     let next = got.next;
-    Said {
+    NextSaid {
         found: got.found,
         said: read_line(&line[..len]),
         next,

@@ -1,10 +1,10 @@
 // A book built from text, for the program `keep`: its note from words, and a record from each line
 // that is a case.
 ghost use mathlib.Core.Path.{_≡_};
-ghost use Prim.Native.Nat.{_+_, _-_};
+ghost use Prim.Native.Nat.{_-_};
 ghost use lib.ListN.{length, take};
 ghost use Rattle.keep_book.specs.Keeping.{nextWord, keepFor, keptOf};
-ghost use Rattle.splice.specs.Splice.{splice};
+ghost use Rattle.splice.specs.Put.{Put};
 ghost use Rattle.text.specs.Answer.{saidOf};
 use book::append::append;
 use text::gather::keep;
@@ -16,8 +16,8 @@ use text::line::Read;
 // first, and answers the new length. Of a note longer than the buffer as much is kept as fits, for
 // which `start` has then no room.
 pub fn add_word(buffer: &mut [u8], len: usize, first: bool, word: &[u8]) -> usize
-    ensures { λ r. ⌜ (let k = take (length (now (buffer .entry)) - len) (nextWord first (now (word .entry))) in
-        (r ≡ len + length k) × (now (buffer .exit) ≡ splice (now (buffer .entry)) len k)) ⌝ }
+    ensures { λ r. ⌜ Put (now (buffer .entry)) len (take (length (now (buffer .entry)) - len) (nextWord first (now (word .entry))))
+        (now (buffer .exit)) r ⌝ }
 {
     if first {
         return keep(buffer, len, word, 0, word.len());

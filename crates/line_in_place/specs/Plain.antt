@@ -14,5 +14,5 @@ pub record PlainLine (n : ℕ) (s : List ℕ) (from to : ℕ) (xs : List ℕ) : 
   pub says : readLineOf n (piece from to s) ≡ aCase xs
 
 -- the most bytes that n numbers take in such a line: for each eleven and one after it, and a carriage return
-unfoldable pub longest : ℕ → ℕ
-longest n = n * 12 + 1
+unfoldable pub longestPlain : ℕ → ℕ
+longestPlain n = n * 12 + 1

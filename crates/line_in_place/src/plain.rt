@@ -4,7 +4,7 @@ ghost use mathlib.Core.Path.{_≡_};
 ghost use Prim.Native.Nat.{_+_, _<_, _≤_};
 ghost use lib.Dec.{eqb};
 ghost use lib.ListN.{getD, length};
-ghost use Rattle.line_in_place.specs.Plain.{PlainLine, longest};
+ghost use Rattle.line_in_place.specs.Plain.{PlainLine, longestPlain};
 ghost use Rattle.fields.specs.Fields.{width};
 use crate::number::number_at;
 use fields::Case;
@@ -29,14 +29,14 @@ fn not_plain() -> Plain
 }
 
 // The bytes of the longest plain line: for each number eleven and one after it, and a carriage return.
-const LONGEST: usize = WIDTH * 12 + 1;
+const LONGEST_PLAIN: usize = WIDTH * 12 + 1;
 
 // Whether the longest plain line from `from` on would end in the chunk.
 fn has_room(s: &[u8], from: usize) -> bool
-    ensures { λ r. ⌜ (r ≡ true → from + longest width ≤ length (now (s .entry))) ⌝ }
+    ensures { λ r. ⌜ (r ≡ true → from + longestPlain width ≤ length (now (s .entry))) ⌝ }
 {
     if from < s.len() {
-        return LONGEST <= s.len() - from;
+        return LONGEST_PLAIN <= s.len() - from;
     }
     false
 }

@@ -3,15 +3,15 @@
 // and the writing.
 ghost use Prim.Native.Nat.{_+_, _≤_};
 ghost use lib.ListN.{length};
-ghost use Rattle.rate_text.specs.Answers.{lineRoom};
+ghost use Rattle.rate_text.specs.Answers.{answerRoom};
 use output::send;
 use rate_text::ROOM;
 use text::line::Read;
 
 // What is printed for one line in `out`, which is sent on where it might not take another.
 fn answer(out: &mut [u8], used: usize, number: u64, said: Read) -> usize
-    requires { ⌜ used + lineRoom ≤ length (now out) ⌝ }
-    ensures { λ r. ⌜ r + lineRoom ≤ length (now (out .exit)) ⌝ }
+    requires { ⌜ used + answerRoom ≤ length (now out) ⌝ }
+    ensures { λ r. ⌜ r + answerRoom ≤ length (now (out .exit)) ⌝ }
 {
     let end = rate_text::print_said(out, used, number, said);
     if out.len() - end < ROOM {
@@ -23,7 +23,7 @@ fn answer(out: &mut [u8], used: usize, number: u64, said: Read) -> usize
 
 // Each line's answer.
 fn rate_lines(chunk: &mut [u8], line: &mut [u8], out: &mut [u8])
-    requires { ⌜ lineRoom ≤ length (now out) ⌝ }
+    requires { ⌜ answerRoom ≤ length (now out) ⌝ }
 {
     let mut from = input::start();
     let mut used: usize = 0;

@@ -6,8 +6,8 @@ use Rattle.decimals.specs.Decimal.{decimal, written}
 use Rattle.text.specs.Line.{Said, passedOver, aCase, unreadable, readLine}
 
 -- room for what is printed for any line, and in it for a sheet: 13 numbers of at most 20 digits with a blank before each
-abbrev pub lineRoom : ℕ
-lineRoom = 512
+abbrev pub answerRoom : ℕ
+answerRoom = 512
 
 abbrev pub sheetRoom : ℕ
 sheetRoom = 273

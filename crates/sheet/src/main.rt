@@ -3,7 +3,7 @@
 // lines and the writing.
 ghost use Prim.Native.Nat.{_≤_};
 ghost use lib.ListN.{length};
-ghost use Rattle.rate_text.specs.Answers.{lineRoom};
+ghost use Rattle.rate_text.specs.Answers.{answerRoom};
 use fields::Case;
 use libc::STDOUT_FILENO;
 use output::send;
@@ -21,7 +21,7 @@ fn show_case(out: &mut [u8], number: u64, x: Case) {
 
 // A line that is no case has the text that the program rate prints for it.
 fn show(out: &mut [u8], number: u64, said: Read)
-    requires { ⌜ lineRoom ≤ length (now out) ⌝ }
+    requires { ⌜ answerRoom ≤ length (now out) ⌝ }
 {
     if said.kind == CASE {
         let fields = said.fields;
@@ -34,7 +34,7 @@ fn show(out: &mut [u8], number: u64, said: Read)
 
 // Each line's sheet.
 fn show_lines(chunk: &mut [u8], line: &mut [u8], out: &mut [u8])
-    requires { ⌜ lineRoom ≤ length (now out) ⌝ }
+    requires { ⌜ answerRoom ≤ length (now out) ⌝ }
 {
     let mut from = input::start();
     let mut number: u64 = 0;

@@ -5,7 +5,7 @@ ghost use Prim.Native.Nat.{_+_, _-_, _≤_, min};
 ghost use lib.ListN.{length};
 ghost use Rattle.text.specs.Gather.{isInLine, kept};
 ghost use Rattle.text.specs.Words.{runEnd};
-ghost use Rattle.splice.specs.Splice.{splice};
+ghost use Rattle.splice.specs.Put.{Put};
 use super::line::LONGEST;
 
 // Room for a line: a byte more than the longest has, so that a line that is too long is seen to be so.
@@ -83,8 +83,8 @@ fn kept_count(room: usize, chunk: &[u8], from: usize, to: usize) -> usize
 // Appends the chunk's bytes from `from` to `to` to the `len` bytes that the line has, as many as there is room for, and
 // answers the new length.
 pub fn keep(line: &mut [u8], len: usize, chunk: &[u8], from: usize, to: usize) -> usize
-    ensures { λ r. ⌜ (let k = kept (length (now (line .entry)) - len) from to (now (chunk .entry)) in
-        (r ≡ len + length k) × (now (line .exit) ≡ splice (now (line .entry)) len k)) ⌝ }
+    ensures { λ r. ⌜ Put (now (line .entry)) len (kept (length (now (line .entry)) - len) from to (now (chunk .entry)))
+        (now (line .exit)) r ⌝ }
 {
     let room = less(line.len(), len);
     let count = kept_count(room, chunk, from, to);

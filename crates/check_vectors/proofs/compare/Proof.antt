@@ -4,14 +4,14 @@ use Prim.Native.Nat.{_≤_}
 use mathlib.Core.Path.{_≡_}
 use lib.ListN.{length}
 use borrow.Author.Needs.{needs}
-use Rattle.input.specs.State.{Reading, linesLeft}
-use Rattle.rate_text.specs.Answers.{lineRoom}
+use Rattle.input.specs.State.{BuffersKept, linesLeft}
+use Rattle.rate_text.specs.Answers.{answerRoom}
 use Rattle.check_vectors.proofs.compare.Statement.{statement}
 use Rattle.check_vectors.proofs.compare.Tie as tie
 
 abbrev Inv-loop : tie.InvT-loop
 Inv-loop chunk₀ line₀ out₀ from₀ t₀ number₀ chunk line out from t number =
-    Reading from chunk₀ line₀ chunk line × (t .printed ≤ lineRoom) × (length out ≡ length out₀)
+    BuffersKept from chunk₀ line₀ chunk line × (t .printed ≤ answerRoom) × (length out ≡ length out₀)
 
 abbrev μ-loop : tie.MeasureT-loop
 μ-loop chunk₀ line₀ out₀ from₀ t₀ number₀ chunk line out from t number = linesLeft number

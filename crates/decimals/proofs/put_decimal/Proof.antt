@@ -8,9 +8,9 @@ use native.Mathlib.Omega.{arith}
 use borrow.Author.Needs.{needs}
 use lib.ListN.{length}
 use Rattle.splice.specs.Put.{Put, put-as}
-use Rattle.decimals.specs.Decimal.{decimal}
+use Rattle.decimals.specs.Decimal.{decimal, PutPadded}
 use Rattle.decimals.specs.Laws.Decimal.{count-below}
-use Rattle.decimals.specs.Laws.Parts.{PutPadded, decimal-then}
+use Rattle.decimals.specs.Laws.Parts.{decimal-then}
 use Rattle.decimals.proofs.put_decimal.Statement.{statement}
 use Rattle.decimals.proofs.put_decimal.Tie as tie
 

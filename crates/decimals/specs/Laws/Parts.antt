@@ -6,19 +6,14 @@ use Prim.Native.Nat.{ℕ, zero, suc, _+_, _/_, _%_, _^_, _≤_}
 use native.Mathlib.Nat.{add-assoc}
 use native.Mathlib.Numerals.{add-one}
 use lib.ListN.{length, length-append}
-use Rattle.splice.specs.Splice.{splice}
 use Rattle.splice.specs.Put.{Put, put-as, put-then}
-use Rattle.decimals.specs.Decimal.{decimal, padded}
+use Rattle.decimals.specs.Decimal.{decimal, padded, PutPadded}
 use Rattle.decimals.specs.Laws.Decimal.{padded-split, decimal-split}
 
 padded-length : (n x : ℕ) → length (padded n x) ≡ n
 unfolding padded
 padded-length zero x = refl
 padded-length (suc n) x = length-append (padded n (x / 10)) _ ∙ ap (λ (k : ℕ). k + 1) (padded-length n (x / 10)) ∙ add-one n
-
--- the last n digits of x stand in l from `at` on, which makes l to m, and r is the place after them
-abbrev pub PutPadded : List ℕ → ℕ → ℕ → ℕ → List ℕ → ℕ → Type 0
-PutPadded l at n x m r = (r ≡ at + n) × (m ≡ splice l at (padded n x))
 
 as-put : (l : List ℕ) (at n x : ℕ) {m : List ℕ} {r : ℕ} → PutPadded l at n x m r → Put l at (padded n x) m r
 as-put l at n x h = (h .0 ∙ ap (λ (k : ℕ). at + k) (sym (padded-length n x)), h .1)

@@ -3,13 +3,13 @@
 use mathlib.Core.Path.{_≡_}
 use borrow.Author.Needs.{needs}
 use lib.ListN.{length}
-use Rattle.input.specs.State.{Reading, linesLeft}
+use Rattle.input.specs.State.{BuffersKept, linesLeft}
 use Rattle.keep.proofs.keep_lines.Statement.{statement}
 use Rattle.keep.proofs.keep_lines.Tie as tie
 
 abbrev Inv-loop : tie.InvT-loop
 Inv-loop book₀ begun chunk₀ line₀ from₀ used₀ whole₀ number₀ t12 t13 book chunk line from used whole number =
-    Reading from chunk₀ line₀ chunk line × (length book ≡ length book₀)
+    BuffersKept from chunk₀ line₀ chunk line × (length book ≡ length book₀)
 
 abbrev μ-loop : tie.MeasureT-loop
 μ-loop book₀ begun chunk₀ line₀ from₀ used₀ whole₀ number₀ t12 t13 book chunk line from used whole number = linesLeft number

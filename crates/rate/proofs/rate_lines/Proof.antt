@@ -4,14 +4,14 @@ use borrow.Author.Needs.{needs}
 use Prim.Native.Nat.{_+_, _≤_}
 use mathlib.Core.Path.{_≡_}
 use lib.ListN.{length}
-use Rattle.input.specs.State.{Reading, linesLeft}
-use Rattle.rate_text.specs.Answers.{lineRoom}
+use Rattle.input.specs.State.{BuffersKept, linesLeft}
+use Rattle.rate_text.specs.Answers.{answerRoom}
 use Rattle.rate.proofs.rate_lines.Statement.{statement}
 use Rattle.rate.proofs.rate_lines.Tie as tie
 
 abbrev Inv-loop : tie.InvT-loop
 Inv-loop chunk₀ line₀ out₀ from₀ used₀ number₀ chunk line out from used number =
-    Reading from chunk₀ line₀ chunk line × (used + lineRoom ≤ length out) × (length out ≡ length out₀)
+    BuffersKept from chunk₀ line₀ chunk line × (used + answerRoom ≤ length out) × (length out ≡ length out₀)
 
 abbrev μ-loop : tie.MeasureT-loop
 μ-loop chunk₀ line₀ out₀ from₀ used₀ number₀ chunk line out from used number = linesLeft number

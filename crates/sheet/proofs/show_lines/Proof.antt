@@ -3,12 +3,12 @@
 use borrow.Author.Needs.{needs}
 use mathlib.Core.Path.{_≡_}
 use lib.ListN.{length}
-use Rattle.input.specs.State.{Reading, linesLeft}
+use Rattle.input.specs.State.{BuffersKept, linesLeft}
 use Rattle.sheet.proofs.show_lines.Statement.{statement}
 use Rattle.sheet.proofs.show_lines.Tie as tie
 
 abbrev Inv-loop : tie.InvT-loop
-Inv-loop chunk₀ line₀ out₀ from₀ number₀ chunk line out from number = Reading from chunk₀ line₀ chunk line × (length out ≡ length out₀)
+Inv-loop chunk₀ line₀ out₀ from₀ number₀ chunk line out from number = BuffersKept from chunk₀ line₀ chunk line × (length out ≡ length out₀)
 
 abbrev μ-loop : tie.MeasureT-loop
 μ-loop chunk₀ line₀ out₀ from₀ number₀ chunk line out from number = linesLeft number

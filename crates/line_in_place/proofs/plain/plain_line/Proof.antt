@@ -14,7 +14,7 @@ use lib.ListN.{length, getD, take, set, length-set}
 use lib.Seq.{take-all, take-suc-set}
 use Rattle.bools.specs.Tests.{other-outcome}
 use Rattle.line_in_place.specs.NumberAt.{NumberAt}
-use Rattle.line_in_place.specs.Plain.{PlainLine, longest}
+use Rattle.line_in_place.specs.Plain.{PlainLine, longestPlain}
 use Rattle.line_in_place.specs.Laws.Row.{Row, row-none, row-more, row-ends}
 use Rattle.text.specs.Words.{isBlank}
 use Rattle.line_in_place.proofs.plain.plain_line.Statement.{statement}
@@ -22,7 +22,7 @@ use Rattle.line_in_place.proofs.plain.plain_line.Tie as tie
 
 -- of n numbers and a last one, those of l before i are a row from `from` to `at`
 record Reading-on (n : ℕ) (s : List ℕ) (from : ℕ) (l : List ℕ) (at i : ℕ) : Type 0 where
-  pub space : from + longest (suc n) ≤ length s
+  pub space : from + longestPlain (suc n) ≤ length s
   pub count : i ≤ n
   pub near : at ≤ from + i * 12
   pub room : length l ≡ suc n
@@ -51,7 +51,7 @@ module _ {n : ℕ} {s : List ℕ} {from : ℕ} {l : List ℕ} {at i : ℕ} (on :
   -- the last
   module _ (end : ℕ) (e : end ≡ cond (eqb (getD s to 0) 13) (to + 1) to) where
     end-inside : end < length s
-    unfolding longest
+    unfolding longestPlain
     end-inside =
         let most : end ≤ to + 1 = rw e (at-most-one (eqb (getD s to 0) 13) to) in
         omega (arith, on .space, on .near, on .count, number .near)
@@ -85,7 +85,7 @@ none-read c =
     }
 
 room-for-number : tie.Need-number-at-requires Inv-loop μ-loop
-unfolding longest
+unfolding longestPlain
 room-for-number c κs =
     let on = c .before .loop .inv in
     omega (arith, on .space, on .near)
@@ -104,7 +104,7 @@ one-more-read c =
     next (in-loop .before .loop .inv) number (in-loop .loop-test .taken) blank
 
 room-for-last : tie.Need-number-at-requires-2 Inv-loop μ-loop
-unfolding longest
+unfolding longestPlain
 room-for-last c κs =
     let on = c .before .loop .inv in
     omega (arith, on .space, on .near, on .count)

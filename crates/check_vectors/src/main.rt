@@ -1,8 +1,9 @@
-// Evidence from outside the proofs: cases with what they must get, from standard input, and what was
-// compared. A case's line is followed by a line that says what the program `rate` must print for it,
-// or by `r LOW HIGH`: its rating lies between these, ends included (mA). Empty lines and lines that
-// begin with `#` are passed over where a case may stand. A line that says what a case must get is
-// compared byte by byte, so lines are read by their bytes here, and not by what they say.
+// Evidence from outside the proofs: cases with what they must get, from standard input, and what
+// was compared. A case's line is followed by a line that says what the program `rate` must print
+// for it, or by `r LOW HIGH`: its rating lies between these, ends included (mA). Empty lines and
+// lines that begin with `#` are passed over where a case may stand. A line that says what a case
+// must get is compared byte by byte, so lines are read by their bytes here, and not by what they
+// say.
 ghost use Prim.Native.Nat.{_≤_};
 ghost use lib.ListN.{length};
 ghost use Rattle.rate_text.specs.Answers.{answerRoom};

@@ -1,5 +1,5 @@
-// Decimals, and single bytes, written into a slice at a place. Each function answers the place where
-// the next byte goes.
+// Decimals, and single bytes, written into a slice at a place. Each function answers the place
+// where the next byte goes.
 ghost use mathlib.Core.List.{[], _∷_};
 ghost use mathlib.Core.Path.{_≡_};
 ghost use Prim.Native.Nat.{_+_, _%_, _<_, _≤_, min};
@@ -43,8 +43,8 @@ fn put_eight(out: &mut [u8], at: usize, x: u32) -> usize
     put_four(out, half, x % 10000)
 }
 
-// Writes the last digit of y. Where y is 0 it answers the place of that digit, and not the one after
-// it, so that the next digit takes the place of a zero in front of a number.
+// Writes the last digit of y. Where y is 0 it answers the place of that digit, and not the one
+// after it, so that the next digit takes the place of a zero in front of a number.
 fn put_leading(out: &mut [u8], at: usize, y: u32) -> usize
     requires { ⌜ at < length (now out) ⌝ }
     ensures { λ r. ⌜ (r ≡ at + min y 1) × (now (out .exit) ≡ splice (now (out .entry)) at ((y % 10 + 48) ∷ [])) ⌝ }
@@ -53,7 +53,8 @@ fn put_leading(out: &mut [u8], at: usize, y: u32) -> usize
     if 0 < y { at + 1 } else { at }
 }
 
-// Writes a number of at most four digits in decimal, by the same steps however many it has: no jump depends on that.
+// Writes a number of at most four digits in decimal, by the same steps however many it has: no jump
+// depends on that.
 fn put_to_four(out: &mut [u8], at: usize, x: u32) -> usize
     requires { ⌜ (at + 4 ≤ length (now out)) × (x < 10000) ⌝ }
     ensures { λ r. ⌜ Put (now (out .entry)) at (decimal x) (now (out .exit)) r ⌝ }
@@ -81,8 +82,8 @@ const EIGHT_DIGITS: u64 = 100000000;
 
 const SIXTEEN_DIGITS: u64 = EIGHT_DIGITS * EIGHT_DIGITS;
 
-// Writes x in decimal. Its digits are cut by eight, and those again in halves, so that no digit waits
-// for the division that gave the digit before it.
+// Writes x in decimal. Its digits are cut by eight, and those again in halves, so that no digit
+// waits for the division that gave the digit before it.
 pub fn put_decimal(out: &mut [u8], at: usize, x: u64) -> usize
     requires { ⌜ at + 20 ≤ length (now out) ⌝ }
     ensures { λ r. ⌜ Put (now (out .entry)) at (decimal x) (now (out .exit)) r ⌝ }

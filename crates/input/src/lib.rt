@@ -1,6 +1,6 @@
-// Standard input, line by line, in two buffers that the caller lends: a chunk as it was read, and the
-// line that is gathered from chunks. Memory does not grow with the input, and a budget of reads makes
-// every loop end.
+// Standard input, line by line, in two buffers that the caller lends: a chunk as it was read, and
+// the line that is gathered from chunks. Memory does not grow with the input, and a budget of reads
+// makes every loop end.
 ghost use mathlib.Core.Bool.{true};
 ghost use mathlib.Core.Path.{_≡_};
 ghost use Prim.Native.Nat.{_≤_};
@@ -17,14 +17,16 @@ use text::line::read_line;
 // Room for a line, in the buffer that a program lends for it.
 pub const LINE: usize = ROOM;
 
-// Where reading stands: the chunk's bytes from `at` to `end` are still to come, and so many reads are left.
+// Where reading stands: the chunk's bytes from `at` to `end` are still to come, and so many reads
+// are left.
 pub struct Input {
     pub at: usize,
     pub end: usize,
     pub reads: u64,
 }
 
-// The line's length, if there was one: a line feed ends it, or the end of the input after at least one byte.
+// The line's length, if there was one: a line feed ends it, or the end of the input after at least
+// one byte.
 pub struct NextLine {
     pub found: bool,
     pub len: usize,
@@ -64,7 +66,8 @@ fn gather(chunk: &[u8], line: &mut [u8], len: usize, at: usize, end: usize) -> G
     Gathered { stop, len: more }
 }
 
-// The chunk filled anew, and how many bytes it has: none at the end of the input, or where reading fails.
+// The chunk filled anew, and how many bytes it has: none at the end of the input, or where reading
+// fails.
 fn refill(chunk: &mut [u8]) -> usize
     ensures { λ r. ⌜ r ≤ length (now (chunk .exit)) ⌝ }
 {
@@ -120,8 +123,8 @@ pub fn next_line(chunk: &mut [u8], line: &mut [u8], from: Input) -> NextLine
     last(len)
 }
 
-// What the next line says. A line that the chunk has to its line feed is read there, and any other is
-// gathered in `line` first.
+// What the next line says. A line that the chunk has to its line feed is read there, and any other
+// is gathered in `line` first.
 pub fn next_said(chunk: &mut [u8], line: &mut [u8], from: Input) -> NextSaid
     requires { ⌜ Ready from (length (now chunk)) ⌝ }
     ensures { λ r. ⌜ Ready (r .next) (length (now (chunk .exit))) ⌝ }

@@ -1,7 +1,7 @@
-// Reads cases from standard input, one to a line as `rate` does, and writes a book of them to standard
-// output, with the program's arguments, joined by blanks, as its note. Where a line cannot be read, or
-// the book would pass 65536 bytes, standard error says so and no book is written. What is done to the
-// book's bytes is `keep_book`; here are the buffers, the reading and the writing.
+// Reads cases from standard input, one to a line as `rate` does, and writes a book of them to
+// standard output, with the program's arguments, joined by blanks, as its note. Where a line cannot
+// be read, or the book would pass 65536 bytes, standard error says so and no book is written. What
+// is done to the book's bytes is `keep_book`; here are the buffers, the reading and the writing.
 ghost use Prim.Native.Nat.{_≤_};
 ghost use lib.ListN.{length};
 use book::start::start;
@@ -50,7 +50,8 @@ struct Kept {
     used: usize,
 }
 
-// Each line's case appended to the book. Every unreadable line is said, and the first that the book has no room for.
+// Each line's case appended to the book. Every unreadable line is said, and the first that the book
+// has no room for.
 fn keep_lines(book: &mut [u8], begun: usize, chunk: &mut [u8], line: &mut [u8]) -> Kept {
     let mut from = input::start();
     let mut used = begun;

@@ -26,14 +26,16 @@ pub fn add_word(buffer: &mut [u8], len: usize, first: bool, word: &[u8]) -> usiz
     keep(buffer, from, word, 0, word.len())
 }
 
-// What became of a line: whether it could be read, 0 or the number by which `append` refused its case, and the used length.
+// What became of a line: whether it could be read, 0 or the number by which `append` refused its
+// case, and the used length.
 pub struct Kept {
     pub readable: bool,
     pub number: u32,
     pub used: usize,
 }
 
-// Appends the case that a line says to a book. A line that is passed over or cannot be read changes nothing.
+// Appends the case that a line says to a book. A line that is passed over or cannot be read changes
+// nothing.
 pub fn keep_said(buffer: &mut [u8], used: usize, said: Read) -> Kept
     ensures { λ r. ⌜ keptOf r (now (buffer .exit)) ≡ keepFor (saidOf said) (now (buffer .entry)) used ⌝ }
 {

@@ -13,8 +13,9 @@ use text::line::Read;
 use text::line::no_case;
 use text::line::read_line;
 
-// What stands from a place on: whether the chunk has the whole line, where its line feed stands, and what it says. Of a line that
-// goes on past the chunk's end nothing is said, and `to` is that end.
+// What stands from a place on: whether the chunk has the whole line, where its line feed stands,
+// and what it says. Of a line that goes on past the chunk's end nothing is said, and `to` is that
+// end.
 pub struct Line {
     pub whole: bool,
     pub to: usize,

@@ -1,4 +1,5 @@
-// A number at a place of a chunk.
+// A number at a place of a chunk, in a line that is read where it stands. The chunk goes on for as
+// many bytes as the longest number has, so that no byte is asked whether it is there.
 ghost use mathlib.Core.Bool.{false, true};
 ghost use mathlib.Core.Path.{_≡_};
 ghost use Prim.Native.Nat.{_+_, _≤_};

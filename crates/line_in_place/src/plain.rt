@@ -1,4 +1,5 @@
-// The usual line: a case with one blank or tab between two numbers, read in one pass over its bytes.
+// The usual line: a case with one blank or tab between two numbers, read in one pass over its
+// bytes.
 ghost use mathlib.Core.Bool.{cond, false, true};
 ghost use mathlib.Core.Path.{_≡_};
 ghost use Prim.Native.Nat.{_+_, _<_, _≤_};
@@ -28,7 +29,8 @@ fn not_plain() -> Plain
     }
 }
 
-// The bytes of the longest plain line: for each number eleven and one after it, and a carriage return.
+// The bytes of the longest plain line: for each number eleven and one after it, and a carriage
+// return.
 const LONGEST_PLAIN: usize = WIDTH * 12 + 1;
 
 // Whether the longest plain line from `from` on would end in the chunk.

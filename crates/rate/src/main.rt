@@ -1,6 +1,6 @@
 // Reads cases from standard input, one to a line, and prints for each its answer, rating and sheet.
-// What is printed for a line is `rate_text::print_said`; here are the buffers, the loop over the lines
-// and the writing.
+// What is printed for a line is `rate_text::print_said`; here are the buffers, the loop over the
+// lines and the writing.
 ghost use Prim.Native.Nat.{_+_, _≤_};
 ghost use lib.ListN.{length};
 ghost use Rattle.rate_text.specs.Answers.{answerRoom};

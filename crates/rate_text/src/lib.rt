@@ -1,6 +1,6 @@
 // What the program `rate` prints for a line of its input, and what a program says of a line. Each
-// function writes into `out` from `at` on, and answers the place after what it wrote. A bound on that
-// place shows that the next one has room.
+// function writes into `out` from `at` on, and answers the place after what it wrote. A bound on
+// that place shows that the next one has room.
 ghost use Prim.Native.Nat.{_+_, _≤_};
 ghost use lib.ListN.{length};
 ghost use Rattle.rate_text.specs.Answers.{answerRoom, sheetRoom, textOf, aboutLine, unreadableText, printedFor, printed};

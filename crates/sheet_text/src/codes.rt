@@ -1,4 +1,5 @@
-// The fields that are codes, in words.
+// The fields that are codes, in words: a work sheet says beside a number which arrangement, conductor
+// or metal it stands for (docs/RATING.md has the codes).
 ghost use Prim.Native.Nat.{_≤_};
 ghost use lib.ListN.{length};
 use crate::rows::put_row;

@@ -1,4 +1,5 @@
-// The fields of a case, a line for each.
+// The fields of a case, a line for each, in the units that a person reads (docs/FIELDS.md has the
+// units of the fields themselves).
 ghost use Prim.Native.Nat.{_≤_};
 ghost use lib.ListN.{length};
 use crate::codes::put_words;
@@ -60,7 +61,8 @@ const LABELS: [u8; 1312] = *b"  arrangement  [1 to 5]
 // The column's bytes from the point on.
 const AFTER_POINT: usize = 7;
 
-// How many decimals field i has in its unit. Of the fields with two most are lengths and temperatures.
+// How many decimals field i has in its unit. Of the fields with two most are lengths and
+// temperatures.
 fn decimals(i: usize) -> usize
     ensures { λ r. ⌜ r ≤ 6 ⌝ }
 {

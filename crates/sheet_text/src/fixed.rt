@@ -52,8 +52,9 @@ fn power_of_ten(n: usize) -> u64
     p
 }
 
-// x / 10^decimals, with exactly that many digits after the point, and no point where there are none. The digits after the
-// point are written with a one in front of them, which keeps their zeros; the point then takes the one's place.
+// x / 10^decimals, with exactly that many digits after the point, and no point where there are
+// none. The digits after the point are written with a one in front of them, which keeps their
+// zeros; the point then takes the one's place.
 pub fn put_fixed(out: &mut [u8], at: usize, x: u64, decimals: usize) -> usize
     requires { ⌜ (at + 40 ≤ length (now out)) × (decimals ≤ 16) ⌝ }
     ensures { λ r. ⌜ Put (now (out .entry)) at (fixed decimals x) (now (out .exit)) r ⌝ }

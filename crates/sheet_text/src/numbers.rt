@@ -1,4 +1,5 @@
-// The numbers of a rated case, a line for each.
+// The numbers of a rated case, a line for each, in the units that a person reads (docs/RATING.md has
+// their order and what they mean).
 ghost use Prim.Native.Nat.{_≤_};
 ghost use lib.ListN.{length};
 use crate::fixed::Value;

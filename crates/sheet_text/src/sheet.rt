@@ -1,4 +1,5 @@
-// The whole work sheet, with a blank line at its end.
+// The whole work sheet: the fields, then the numbers and the rating or the refusal, and a blank line
+// at its end.
 ghost use Prim.Native.Nat.{_≤_};
 ghost use lib.ListN.{length};
 use crate::field_rows::put_fields;

@@ -5,11 +5,12 @@ use mathlib.Core.Path.{_≡_}
 use Prim.Native.Nat.{ℕ, suc, _-_, min}
 use lib.Dec.{eqb}
 use lib.ListN.{length, take, drop}
+use Rattle.text.specs.Bytes.{lineFeed}
 use Rattle.text.specs.Line.{longestLine}
 
 -- any byte but a line feed
 unfoldable pub isInLine : ℕ → Bool
-isInLine b = not (eqb b 10)
+isInLine b = not (eqb b lineFeed)
 
 -- the bytes of a chunk from `from` up to, not including, `to`
 unfoldable pub piece : ℕ → ℕ → List ℕ → List ℕ

@@ -1,13 +1,14 @@
--- Bytes, and the words of a line: a word is a run of bytes that are neither blank nor tab. Assumes nothing.
+-- The words of a line: a word is a run of bytes that are neither blank nor tab. Assumes nothing.
 use mathlib.Core.Bool.{Bool, true, false, cond, not, _||_}
 use mathlib.Core.List.{List, [], _∷_}
 use Prim.Native.Nat.{ℕ, zero, suc, _+_}
 use lib.Dec.{eqb}
 use lib.ListN.{take, drop}
+use Rattle.text.specs.Bytes.{tab, space}
 
 -- a blank or a tab
 unfoldable pub isBlank : ℕ → Bool
-isBlank b = eqb b 32 || eqb b 9
+isBlank b = eqb b space || eqb b tab
 
 -- any other byte
 unfoldable pub isInk : ℕ → Bool

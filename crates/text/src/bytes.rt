@@ -1,4 +1,5 @@
-// Bytes written into a slice at a place.
+// Bytes written into a slice at a place, for what the programs print. All of them must fit, where
+// `gather::keep` keeps as many as do.
 ghost use Prim.Native.Nat.{_+_, _≤_};
 ghost use lib.ListN.{length};
 ghost use Rattle.splice.specs.Put.{Put};

@@ -1,4 +1,5 @@
-// A stream cut into lines: the place of a line feed in a chunk, and the part of a line that is kept.
+// A stream cut into lines: the place of a line feed in a chunk, and the part of a line that is
+// kept.
 ghost use mathlib.Core.Bool.{true};
 ghost use mathlib.Core.Path.{_≡_};
 ghost use Prim.Native.Nat.{_+_, _-_, _≤_, min};
@@ -8,7 +9,8 @@ ghost use Rattle.text.specs.Words.{runEnd};
 ghost use Rattle.splice.specs.Put.{Put};
 use super::line::LONGEST;
 
-// Room for a line: a byte more than the longest has, so that a line that is too long is seen to be so.
+// Room for a line: a byte more than the longest has, so that a line that is too long is seen to be
+// so.
 pub const ROOM: usize = LONGEST + 1;
 
 // Whether no line feed stands among the eight bytes from `i` on.
@@ -26,8 +28,9 @@ fn eight_in_line(chunk: &[u8], i: usize) -> bool
         & (chunk[i + 7] != b'\n')
 }
 
-// A place from which on the first line feed is the one from `from` on, and less than eight bytes away, or the end is. Eight bytes
-// are compared at once, where one after another would each be a branch.
+// A place from which on the first line feed is the one from `from` on, and less than eight bytes
+// away, or the end is. Eight bytes are compared at once, where one after another would each be a
+// branch.
 fn near_feed(chunk: &[u8], from: usize) -> usize
     ensures { λ r. ⌜ runEnd isInLine (now (chunk .entry)) from ≡ runEnd isInLine (now (chunk .entry)) r ⌝ }
 {
@@ -80,8 +83,8 @@ fn kept_count(room: usize, chunk: &[u8], from: usize, to: usize) -> usize
     least(room, size)
 }
 
-// Appends the chunk's bytes from `from` to `to` to the `len` bytes that the line has, as many as there is room for, and
-// answers the new length.
+// Appends the chunk's bytes from `from` to `to` to the `len` bytes that the line has, as many as
+// there is room for, and answers the new length.
 pub fn keep(line: &mut [u8], len: usize, chunk: &[u8], from: usize, to: usize) -> usize
     ensures { λ r. ⌜ Put (now (line .entry)) len (kept (length (now (line .entry)) - len) from to (now (chunk .entry)))
         (now (line .exit)) r ⌝ }

@@ -1,4 +1,5 @@
-// A line read as a case.
+// A line read as a case: whether it is one, and its numbers (docs/FIELDS.md). A line of blanks alone,
+// or that begins with `#`, is passed over, so that a file of cases can have remarks.
 ghost use mathlib.Core.Path.{_≡_};
 ghost use Prim.Native.Nat.{_≤_};
 ghost use lib.ListN.{length};
@@ -50,7 +51,8 @@ struct Word {
     said: Reading,
 }
 
-// The word at `from`. The usual word has digits alone and is passed over once; any other is passed to its end and then read.
+// The word at `from`. The usual word has digits alone and is passed over once; any other is passed
+// to its end and then read.
 fn read_word(s: &[u8], from: usize) -> Word
     requires { ⌜ from ≤ length (now s) ⌝ }
     ensures { λ r. ⌜ (r .to ≡ runEnd isInk (now (s .entry)) from)

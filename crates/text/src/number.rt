@@ -1,4 +1,5 @@
-// A word read as a number.
+// A word read as a number of 32 bits: digits, or a minus sign and digits, as a temperature below zero
+// has them.
 ghost use mathlib.Core.Path.{_≡_};
 ghost use Prim.Native.Nat.{_+_, _≤_};
 ghost use lib.ListN.{length};
@@ -16,7 +17,8 @@ pub const LARGEST: u32 = u32::MAX;
 
 pub const LARGEST_NEGATED: u32 = 2147483648;
 
-// Digits with a value of at most `limit`. The value only grows, so the first digit that takes it past the limit decides.
+// Digits with a value of at most `limit`. The value only grows, so the first digit that takes it
+// past the limit decides.
 fn read_digits(w: &[u8], limit: u32) -> Reading
     ensures { λ r. ⌜ r ≡ readDigits limit (now (w .entry)) ⌝ }
 {

@@ -1,4 +1,5 @@
-// Where a run of blanks or a word ends.
+// Where a run of blanks or a word ends. The numbers of a line are words, and any run of blanks and
+// tabs stands between two of them.
 ghost use mathlib.Core.Bool.{true};
 ghost use mathlib.Core.Path.{_≡_};
 ghost use lib.ListN.{drop};

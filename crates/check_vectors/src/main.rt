@@ -1,8 +1,12 @@
-// Evidence from outside the proofs: cases with what they must get, from standard input, and what was compared. A case's line is followed by a
-// line that says what the program `rate` must print for it, or by `r LOW HIGH`: its rating lies between these, ends included (mA). Empty
-// lines and lines that begin with `#` are passed over where a case may stand.
+// Evidence from outside the proofs: cases with what they must get, from standard input, and what
+// was compared. A case's line is followed by a line that says what the program `rate` must print
+// for it, or by `r LOW HIGH`: its rating lies between these, ends included (mA). Empty lines and
+// lines that begin with `#` are passed over where a case may stand. A line that says what a case
+// must get is compared byte by byte, so lines are read by their bytes here, and not by what they
+// say.
 ghost use Prim.Native.Nat.{_≤_};
 ghost use lib.ListN.{length};
+ghost use Rattle.rate_text.specs.Answers.{answerRoom};
 
 mod expected;
 mod tally;
@@ -11,11 +15,13 @@ mod two_records;
 use libc::STDOUT_FILENO;
 use tally::Tally;
 use tally::nothing;
+use text::line::CASE;
+use text::line::read_line;
 
 // The rating of the case that a line holds, or 0.
 fn rating_of(line: &[u8]) -> u64 {
-    let said = text::line::read_line(line);
-    if said.kind == 1 {
+    let said = read_line(line);
+    if said.kind == CASE {
         let fields = said.fields;
         return rating::rate::rate(fields).rating as u64;
     }
@@ -24,8 +30,8 @@ fn rating_of(line: &[u8]) -> u64 {
 
 // A line is a case, whose text is then put into `out`, or what the case before it must get.
 fn turn(t: Tally, out: &mut [u8], number: u64, line: &[u8], len: usize) -> Tally
-    requires { ⌜ (512 ≤ length (now out)) × (t .printed ≤ 512) × (len ≤ length (now line)) ⌝ }
-    ensures { λ r. ⌜ r .printed ≤ 512 ⌝ }
+    requires { ⌜ (answerRoom ≤ length (now out)) × (t .printed ≤ answerRoom) × (len ≤ length (now line)) ⌝ }
+    ensures { λ r. ⌜ r .printed ≤ answerRoom ⌝ }
 {
     let part = &line[..len];
     let printed = t.printed;
@@ -34,13 +40,14 @@ fn turn(t: Tally, out: &mut [u8], number: u64, line: &[u8], len: usize) -> Tally
         return t.waiting(text, rating_of(part));
     }
     if expected::is_range(part) {
-        return t.published(expected::is_within(part, t.rating));
+        return t.compared(true, expected::is_within(part, t.rating));
     }
-    t.compared(expected::is_same(&out[..printed], part))
+    t.compared(false, expected::is_same(&out[..printed], part))
 }
 
-fn serve(chunk: &mut [u8], line: &mut [u8], out: &mut [u8]) -> Tally
-    requires { ⌜ 512 ≤ length (now out) ⌝ }
+// Each line in turn, and how many comparisons were made.
+fn compare(chunk: &mut [u8], line: &mut [u8], out: &mut [u8]) -> Tally
+    requires { ⌜ answerRoom ≤ length (now out) ⌝ }
 {
     let mut from = input::start();
     let mut t = nothing();
@@ -64,13 +71,15 @@ fn say(count: u64, words: &[u8]) {
 
 fn main() {
     let mut chunk = io::large_buffer();
-    let mut line = [0u8; 1024];
+    let mut line = [0u8; input::LINE];
     let mut out = io::large_buffer();
-    let t = serve(&mut chunk, &mut line, &mut out);
-    say(t.cases, b" cases compared, ");
-    say(t.differing, b" differ\n");
-    say(t.ranges, b" published ratings held to their tolerance, ");
-    say(t.outside, b" outside\n");
+    let t = compare(&mut chunk, &mut line, &mut out);
+    let cases = t.cases;
+    say(cases.made, b" cases compared, ");
+    say(cases.failed, b" differ\n");
+    let ranges = t.ranges;
+    say(ranges.made, b" published ratings held to their tolerance, ");
+    say(ranges.failed, b" outside\n");
     io::write_all(STDOUT_FILENO, b"a book of 2 records has the distance ");
     say(two_records::distance_of_two(), b"\n");
 }

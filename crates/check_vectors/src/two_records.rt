@@ -1,19 +1,27 @@
-// Document 01's edge without a star for books: 'Count 2: distance 224', as the trailer of a book of two records says it.
+// An edge of the format (docs/BOOK.md): a book of two records has the distance 224, as its trailer
+// says it.
 ghost use Prim.Native.Nat.{_≤_};
 use book::append::append;
 use book::start::start;
+use fields::WIDTH;
 
-// The distance back to the first record in the trailer, which stands 16 bytes before the end: its third word.
+// Two records of 112 bytes and a trailer of 16, with no note.
+const LENGTH: usize = 240;
+
+// The third word of the trailer.
+const DISTANCE: usize = LENGTH - 8;
+
+// The distance back to the first record.
 pub(crate) fn distance_of_two() -> u64 {
-    let mut buffer = [0u8; 240];
+    let mut buffer = [0u8; LENGTH];
     let b: &mut [u8] = &mut buffer;
     let empty = start(b, 0);
-    let one = append(b, empty.used, [0; 26]);
-    let two = append(b, one.used, [0; 26]);
+    let one = append(b, empty.used, [0; WIDTH]);
+    let two = append(b, one.used, [0; WIDTH]);
     if two.used != b.len() {
         return 0;
     }
-    word(b, 232)
+    word(b, DISTANCE)
 }
 
 fn wide(x: u8) -> u64

@@ -1,8 +1,10 @@
--- A number in decimal, as ASCII bytes without leading zeros, and numbers on a line. Assumes nothing.
+-- A number in decimal, as ASCII bytes without leading zeros or at a fixed count of digits, and numbers on a line. Assumes nothing.
 use mathlib.Core.Bool.{cond}
 use mathlib.Core.List.{List, [], _∷_, _++_}
+use mathlib.Core.Path.{_≡_}
 use Prim.Native.Nat.{ℕ, zero, suc, _+_, _/_, _%_}
 use lib.Dec.{ltb}
+use Rattle.splice.specs.Splice.{splice}
 
 -- the digits of x, of which there are at most n: a number below ten is one digit, and any other is a tenth of it and its last digit
 unfoldable pub digits : ℕ → ℕ → List ℕ
@@ -22,3 +24,12 @@ spaced (x ∷ xs) = 32 ∷ (decimal x ++ spaced xs)
 unfoldable pub written : List ℕ → List ℕ
 written [] = []
 written (x ∷ xs) = decimal x ++ spaced xs
+
+-- the last n digits of x, with zeros in front where x has fewer
+unfoldable pub padded : ℕ → ℕ → List ℕ
+padded zero x = []
+padded (suc n) x = padded n (x / 10) ++ ((x % 10 + 48) ∷ [])
+
+-- the last n digits of x stand in l from `at` on, which makes l to m, and r is the place after them
+abbrev pub PutPadded : List ℕ → ℕ → ℕ → ℕ → List ℕ → ℕ → Type 0
+PutPadded l at n x m r = (r ≡ at + n) × (m ≡ splice l at (padded n x))

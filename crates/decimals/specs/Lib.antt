@@ -1,4 +1,3 @@
 -- Numbers in decimal, and laws about them. Assumes nothing.
 pub mod Decimal
-pub mod DecimalLaws
-pub mod Leading
+pub mod Laws

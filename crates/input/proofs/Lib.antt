@@ -1,1 +1,2 @@
+-- Laws that the proofs of single functions share. Assumes nothing.
 pub mod Places

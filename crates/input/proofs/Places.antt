@@ -4,15 +4,15 @@ use mathlib.Core.Path.{_≡_, ap}
 use mathlib.Core.List.{List}
 use Prim.Native.Nat.{ℕ, _+_, _≤_}
 use native.Mathlib.Omega.{arith}
-use lib.ListN.{length, take, drop, length-append}
+use lib.ListN.{length, take, length-append}
 use lib.Seq.{length-take-le}
 use Rattle.text.specs.Gather.{isInLine}
-use Rattle.text.specs.Runs.{run-within}
+use Rattle.text.specs.Laws.Runs.{run-within}
 use Rattle.splice.specs.Splice.{splice}
-use Rattle.text.specs.Words.{run}
+use Rattle.text.specs.Words.{runEnd}
 
 pub stop-within :
-    {at stop end : ℕ} (l : List ℕ) → at ≤ end → end ≤ length l → stop ≡ at + run isInLine (drop at (take end l)) → stop ≤ end
+    {at stop end : ℕ} (l : List ℕ) → at ≤ end → end ≤ length l → stop ≡ runEnd isInLine (take end l) at → stop ≤ end
 stop-within {at} {stop} {end} l at≤ end≤ stop-is =
     let size : length (take end l) ≡ end = length-take-le end l end≤ in
     omega (arith, run-within isInLine (take end l) at (omega arith))

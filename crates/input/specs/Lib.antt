@@ -1,1 +1,2 @@
+-- What reading keeps of its positions and buffers. Assumes nothing.
 pub mod State

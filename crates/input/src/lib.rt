@@ -1,5 +1,6 @@
-// Standard input, line by line, in two buffers that the caller lends: a chunk as it was read, and the line that is gathered from
-// chunks. Memory does not grow with the input, and a budget of reads makes every loop end.
+// Standard input, line by line, in two buffers that the caller lends: a chunk as it was read, and
+// the line that is gathered from chunks. Memory does not grow with the input, and a budget of reads
+// makes every loop end.
 ghost use mathlib.Core.Bool.{true};
 ghost use mathlib.Core.Path.{_≡_};
 ghost use Prim.Native.Nat.{_≤_};
@@ -7,27 +8,33 @@ ghost use lib.ListN.{length, take};
 ghost use Rattle.input.specs.State.{Ready, Given, saidHere};
 ghost use Rattle.line_in_place.specs.Standing.{standing};
 use line_in_place::read_at;
+use text::gather::ROOM;
 use text::gather::keep;
 use text::gather::line_feed;
 use text::line::Read;
 use text::line::read_line;
 
-// Where reading stands: the chunk's bytes from `at` to `end` are still to come, and so many reads are left.
+// Room for a line, in the buffer that a program lends for it.
+pub const LINE: usize = ROOM;
+
+// Where reading stands: the chunk's bytes from `at` to `end` are still to come, and so many reads
+// are left.
 pub struct Input {
     pub at: usize,
     pub end: usize,
     pub reads: u64,
 }
 
-// The line's length, if there was one: a line feed ends it, or the end of the input after at least one byte.
-pub struct Line {
+// The line's length, if there was one: a line feed ends it, or the end of the input after at least
+// one byte.
+pub struct NextLine {
     pub found: bool,
     pub len: usize,
     pub next: Input,
 }
 
 // What the line says, if there was one.
-pub struct Said {
+pub struct NextSaid {
     pub found: bool,
     pub said: Read,
     pub next: Input,
@@ -59,7 +66,8 @@ fn gather(chunk: &[u8], line: &mut [u8], len: usize, at: usize, end: usize) -> G
     Gathered { stop, len: more }
 }
 
-// The chunk filled anew, and how many bytes it has: none at the end of the input, or where reading fails.
+// The chunk filled anew, and how many bytes it has: none at the end of the input, or where reading
+// fails.
 fn refill(chunk: &mut [u8]) -> usize
     ensures { λ r. ⌜ r ≤ length (now (chunk .exit)) ⌝ }
 {
@@ -68,10 +76,10 @@ fn refill(chunk: &mut [u8]) -> usize
 }
 
 // What is left of the line at the end of the input, if anything is.
-fn last(len: usize) -> Line
+fn last(len: usize) -> NextLine
     ensures { λ r. ⌜ (r .len ≡ len) × (r .next .at ≡ 0) × (r .next .end ≡ 0) ⌝ }
 {
-    Line {
+    NextLine {
         found: 0 < len,
         len,
         next: Input {
@@ -83,7 +91,7 @@ fn last(len: usize) -> Line
 }
 
 // The next line, without its line feed, at the front of `line`; of a longer one as much as fits.
-pub fn next_line(chunk: &mut [u8], line: &mut [u8], from: Input) -> Line
+pub fn next_line(chunk: &mut [u8], line: &mut [u8], from: Input) -> NextLine
     requires { ⌜ Ready from (length (now chunk)) ⌝ }
     ensures { λ r. ⌜ Given r (length (now (chunk .exit))) (length (now (line .exit))) ⌝ }
 {
@@ -95,7 +103,7 @@ pub fn next_line(chunk: &mut [u8], line: &mut [u8], from: Input) -> Line
         let g = gather(chunk, line, len, at, end);
         len = g.len;
         if g.stop < end {
-            return Line {
+            return NextLine {
                 found: true,
                 len,
                 next: Input {
@@ -115,8 +123,9 @@ pub fn next_line(chunk: &mut [u8], line: &mut [u8], from: Input) -> Line
     last(len)
 }
 
-// What the next line says. A line that the chunk has to its line feed is read there, and any other is gathered in `line` first.
-pub fn next_said(chunk: &mut [u8], line: &mut [u8], from: Input) -> Said
+// What the next line says. A line that the chunk has to its line feed is read there, and any other
+// is gathered in `line` first.
+pub fn next_said(chunk: &mut [u8], line: &mut [u8], from: Input) -> NextSaid
     requires { ⌜ Ready from (length (now chunk)) ⌝ }
     ensures { λ r. ⌜ Ready (r .next) (length (now (chunk .exit))) ⌝ }
     ensures { λ r. ⌜ (let here = standing (take (from .end) (now (chunk .entry))) (from .at) in
@@ -127,7 +136,7 @@ pub fn next_said(chunk: &mut [u8], line: &mut [u8], from: Input) -> Said
     let here = read_at(&chunk[..end], at);
     if here.whole {
         let said = here.said;
-        return Said {
+        return NextSaid {
             found: true,
             said,
             next: Input {
@@ -140,7 +149,7 @@ pub fn next_said(chunk: &mut [u8], line: &mut [u8], from: Input) -> Said
     let got = next_line(chunk, line, from);
     let len = got.len;
     let next = got.next;
-    Said {
+    NextSaid {
         found: got.found,
         said: read_line(&line[..len]),
         next,

@@ -1,11 +1,12 @@
-// Reads cases from standard input, one to a line as `rate` does, and writes a book of them to standard output, with the program's
-// arguments, joined by blanks, as its note. Where a line cannot be read, or the book would pass 65536 bytes, standard error says so
-// and no book is written. What is done to the book's bytes is `keeping`; here are the buffers, the reading and the writing.
+// Reads cases from standard input, one to a line as `rate` does, and writes a book of them to
+// standard output, with the program's arguments, joined by blanks, as its note. Where a line cannot
+// be read, or the book would pass 65536 bytes, standard error says so and no book is written. What
+// is done to the book's bytes is `keep_book`; here are the buffers, the reading and the writing.
 ghost use Prim.Native.Nat.{_≤_};
 ghost use lib.ListN.{length};
 use book::start::start;
 use keep_book::add_word;
-use keep_book::keep_line;
+use keep_book::keep_said;
 use libc::STDERR_FILENO;
 use output::send;
 use rate_text::put_about;
@@ -49,20 +50,21 @@ struct Kept {
     used: usize,
 }
 
-// Each line's case appended to the book. Every unreadable line is said, and the first that the book has no room for.
+// Each line's case appended to the book. Every unreadable line is said, and the first that the book
+// has no room for.
 fn keep_lines(book: &mut [u8], begun: usize, chunk: &mut [u8], line: &mut [u8]) -> Kept {
     let mut from = input::start();
     let mut used = begun;
     let mut whole = true;
     let mut number: u64 = 0;
     while number < u64::MAX {
-        let next = input::next_line(chunk, line, from);
+        let next = input::next_said(chunk, line, from);
         if !next.found {
             return Kept { whole, used };
         }
         number += 1;
-        let len = next.len;
-        let kept = keep_line(book, used, &line[..len]);
+        let said = next.said;
+        let kept = keep_said(book, used, said);
         if kept.number != 0 {
             say(number, b": the book would pass 65536 bytes\n");
             break;
@@ -83,7 +85,7 @@ fn keep_lines(book: &mut [u8], begun: usize, chunk: &mut [u8], line: &mut [u8]) 
 fn main() {
     let mut book = io::large_buffer();
     let mut chunk = io::large_buffer();
-    let mut line = [0u8; 1024];
+    let mut line = [0u8; input::LINE];
     let note = put_note(&mut book, &mut chunk);
     let begun = start(&mut book, note);
     if begun.number != 0 {

@@ -1,1 +1,2 @@
+-- What the program `keep` does to a book. Assumes nothing.
 pub mod Keeping

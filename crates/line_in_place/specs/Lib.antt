@@ -1,5 +1,5 @@
-pub mod Instances
+-- What is read of a line where it stands in a chunk. Assumes nothing.
 pub mod NumberAt
-pub mod Row
+pub mod Plain
 pub mod Standing
-pub mod StandingLaws
+pub mod Laws

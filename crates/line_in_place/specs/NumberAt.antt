@@ -1,18 +1,12 @@
--- A number at a place of a chunk: digits, or digits after a minus sign. Assumes nothing.
+-- A number at a place of a chunk. Assumes nothing.
 use mathlib.Core.Bool.{true}
-use mathlib.Core.List.{List, [], _∷_, _++_}
-use mathlib.Core.Path.{_≡_, ap, _∙_}
-use Prim.Native.Nat.{ℕ, _+_, _-_, _%_, _≤_, _<_}
-use native.Mathlib.Nat.{le-refl}
-use native.Mathlib.Omega.{arith}
-use lib.ListN.{length, getD}
+use mathlib.Core.List.{List}
+use mathlib.Core.Path.{_≡_}
+use Prim.Native.Nat.{ℕ, _+_, _≤_, _<_}
+use lib.ListN.{length}
 use Rattle.text.specs.declared.number.Reading.the-variants.{Number}
 use Rattle.text.specs.Gather.{piece}
-use Rattle.text.specs.Leading.{DigitsIn, digits-say, word-says}
-use Rattle.text.specs.Number.{isDigit, every, negated, readNumber}
-use Rattle.text.specs.NumberLaws.{every-weaker}
-use Rattle.text.specs.Pieces.{piece-none, piece-more, piece-join}
-use Rattle.text.specs.WordLaws.{isNumeral, digit-numeral}
+use Rattle.text.specs.Number.{every, isNumeral, readNumber}
 
 -- a word of digits, or of a minus sign and digits, that says x; it has at most eleven bytes, and the chunk goes on after it
 pub record NumberAt (s : List ℕ) (at to x : ℕ) : Type 0 where
@@ -21,35 +15,3 @@ pub record NumberAt (s : List ℕ) (at to x : ℕ) : Type 0 where
   pub inside : to < length s
   pub numeral : every isNumeral (piece at to s) ≡ true
   pub says : readNumber (piece at to s) ≡ Number x
-
-module _ {s : List ℕ} {at to x : ℕ} (room : at + 12 ≤ length s) where
-  pub without-sign : DigitsIn s at to x → at < to → to ≤ at + 10 → x ≤ 4294967295 → NumberAt s at to x
-  without-sign digits some near fits =
-      record {
-        some = some;
-        near = omega arith;
-        inside = omega arith;
-        numeral = every-weaker isDigit isNumeral digit-numeral (piece at to s) (digits .digits);
-        says = word-says s at to x digits some fits;
-      }
-
-  pub with-sign : getD s at 0 ≡ 45 → DigitsIn s (at + 1) to x → at + 1 < to → to ≤ at + 1 + 10 → x ≤ 2147483648
-      → NumberAt s at to ((4294967296 - x) % 4294967296)
-  unfolding every isNumeral isDigit readNumber negated
-  with-sign sign digits some near fits =
-      let rest = piece (at + 1) to s in
-      let first : piece at (at + 1) s ≡ 45 ∷ [] =
-      piece-more s at at (le-refl at) (omega arith)
-      ∙ ap (λ (p : List ℕ). p ++ (getD s at 0 ∷ [])) (piece-none s at)
-      ∙ ap (λ (b : ℕ). b ∷ []) sign
-      in
-      let signed : piece at to s ≡ 45 ∷ rest =
-      piece-join s at (at + 1) to (omega arith) (omega (arith, some)) ∙ ap (λ (p : List ℕ). p ++ rest) first
-      in
-      record {
-        some = omega arith;
-        near = omega arith;
-        inside = omega arith;
-        numeral = ap (every isNumeral) signed ∙ every-weaker isDigit isNumeral digit-numeral rest (digits .digits);
-        says = ap readNumber signed ∙ ap negated (digits-say s (at + 1) to x digits 2147483648 some fits);
-      }

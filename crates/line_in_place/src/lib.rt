@@ -1,5 +1,5 @@
-// A line read where it stands in a chunk, without a copy of it. What is read is what `text::line::read_line` says of the line; the usual
-// line has a shorter way there (`plain`).
+// A line read where it stands in a chunk, without a copy of it. What is read is what
+// `text::line::read_line` says of the line; the usual line has a shorter way there (`plain`).
 mod number;
 mod plain;
 
@@ -7,12 +7,15 @@ ghost use mathlib.Core.Path.{_≡_};
 ghost use Rattle.line_in_place.specs.Standing.{standing};
 use plain::plain_line;
 use text::gather::line_feed;
+use text::line::CASE;
+use text::line::PASSED_OVER;
 use text::line::Read;
 use text::line::no_case;
 use text::line::read_line;
 
-// What stands from a place on: whether the chunk has the whole line, where its line feed stands, and what it says. Of a line that
-// goes on past the chunk's end nothing is said, and `to` is that end.
+// What stands from a place on: whether the chunk has the whole line, where its line feed stands,
+// and what it says. Of a line that goes on past the chunk's end nothing is said, and `to` is that
+// end.
 pub struct Line {
     pub whole: bool,
     pub to: usize,
@@ -34,7 +37,7 @@ fn any_line(chunk: &[u8], from: usize) -> Line
     Line {
         whole: false,
         to,
-        said: no_case(0),
+        said: no_case(PASSED_OVER),
     }
 }
 
@@ -48,7 +51,7 @@ pub fn read_at(chunk: &[u8], from: usize) -> Line
         return Line {
             whole: true,
             to: plain.to,
-            said: Read { kind: 1, fields },
+            said: Read { kind: CASE, fields },
         };
     }
     any_line(chunk, from)

@@ -1,9 +1,12 @@
-// A number at a place of a chunk.
+// A number at a place of a chunk, in a line that is read where it stands. The chunk goes on for as
+// many bytes as the longest number has, so that no byte is asked whether it is there.
 ghost use mathlib.Core.Bool.{false, true};
 ghost use mathlib.Core.Path.{_≡_};
 ghost use Prim.Native.Nat.{_+_, _≤_};
 ghost use lib.ListN.{length};
 ghost use Rattle.line_in_place.specs.NumberAt.{NumberAt};
+use text::number::LARGEST;
+use text::number::LARGEST_NEGATED;
 use text::number::is_number;
 use text::number::leading_digits;
 
@@ -29,10 +32,10 @@ fn negative_at(s: &[u8], at: usize) -> Number
     requires { ⌜ at + 12 ≤ length (now s) ⌝ }
     ensures { λ r. ⌜ (r .found ≡ true → NumberAt (now (s .entry)) at (r .to) (r .value)) ⌝ }
 {
-    if s[at] == 45 {
+    if s[at] == b'-' {
         let digits = leading_digits(s, at + 1);
         let to = digits.to;
-        if is_number(at + 1, to, digits.value, 2147483648) {
+        if is_number(at + 1, to, digits.value, LARGEST_NEGATED) {
             return Number {
                 found: true,
                 to,
@@ -50,7 +53,7 @@ pub(crate) fn number_at(s: &[u8], at: usize) -> Number
 {
     let digits = leading_digits(s, at);
     let to = digits.to;
-    if is_number(at, to, digits.value, 4294967295) {
+    if is_number(at, to, digits.value, LARGEST) {
         return Number {
             found: true,
             to,

@@ -1,20 +1,22 @@
-// The usual line: a case with one blank or tab between two numbers, read in one pass over its bytes.
+// The usual line: a case with one blank or tab between two numbers, read in one pass over its
+// bytes.
 ghost use mathlib.Core.Bool.{cond, false, true};
 ghost use mathlib.Core.Path.{_≡_};
 ghost use Prim.Native.Nat.{_+_, _<_, _≤_};
 ghost use lib.Dec.{eqb};
 ghost use lib.ListN.{getD, length};
-ghost use Rattle.line_in_place.specs.Row.{PlainLine, longest};
+ghost use Rattle.line_in_place.specs.Plain.{PlainLine, longestPlain};
 ghost use Rattle.fields.specs.Fields.{width};
 use crate::number::number_at;
-use text::line::WIDTH;
+use fields::Case;
+use fields::WIDTH;
 use text::words::is_blank;
 
 // The numbers of a case, if they were found, and where the line feed after them stands.
 pub(crate) struct Plain {
     pub(crate) found: bool,
     pub(crate) to: usize,
-    pub(crate) fields: [u32; WIDTH],
+    pub(crate) fields: Case,
 }
 
 fn not_plain() -> Plain
@@ -27,15 +29,16 @@ fn not_plain() -> Plain
     }
 }
 
-// The bytes of the longest plain line: for each number eleven and one after it, and a carriage return.
-const LONGEST: usize = WIDTH * 12 + 1;
+// The bytes of the longest plain line: for each number eleven and one after it, and a carriage
+// return.
+const LONGEST_PLAIN: usize = WIDTH * 12 + 1;
 
 // Whether the longest plain line from `from` on would end in the chunk.
 fn has_room(s: &[u8], from: usize) -> bool
-    ensures { λ r. ⌜ (r ≡ true → from + longest width ≤ length (now (s .entry))) ⌝ }
+    ensures { λ r. ⌜ (r ≡ true → from + longestPlain width ≤ length (now (s .entry))) ⌝ }
 {
     if from < s.len() {
-        return LONGEST <= s.len() - from;
+        return LONGEST_PLAIN <= s.len() - from;
     }
     false
 }
@@ -45,7 +48,7 @@ fn past_return(s: &[u8], at: usize) -> usize
     requires { ⌜ at < length (now s) ⌝ }
     ensures { λ r. ⌜ r ≡ cond (eqb (getD (now (s .entry)) at 0) 13) (at + 1) at ⌝ }
 {
-    if s[at] == 13 { at + 1 } else { at }
+    if s[at] == b'\r' { at + 1 } else { at }
 }
 
 // The line from `from` on, if it is a case with one blank between two numbers and none at its ends.
@@ -76,7 +79,7 @@ pub(crate) fn plain_line(s: &[u8], from: usize) -> Plain
         return not_plain();
     }
     let end = past_return(s, last.to);
-    if s[end] != 10 {
+    if s[end] != b'\n' {
         return not_plain();
     }
     fields[WIDTH - 1] = last.value;

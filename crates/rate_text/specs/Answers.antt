@@ -5,6 +5,13 @@ use Rattle.rating.specs.Rate.{Answer, rateOf}
 use Rattle.decimals.specs.Decimal.{decimal, written}
 use Rattle.text.specs.Line.{Said, passedOver, aCase, unreadable, readLine}
 
+-- room for what is printed for any line, and in it for a sheet: 13 numbers of at most 20 digits with a blank before each
+abbrev pub answerRoom : ℕ
+answerRoom = 512
+
+abbrev pub sheetRoom : ℕ
+sheetRoom = 273
+
 -- the number of the answer, the rating and the sheet in decimal, with one blank between them, and a line feed
 unfoldable pub textOf : Answer → List ℕ
 textOf a = written (a .number ∷ a .rating ∷ a .sheet) ++ (10 ∷ [])

@@ -1,1 +1,2 @@
+-- What the program `rate` prints. Assumes nothing.
 pub mod Answers

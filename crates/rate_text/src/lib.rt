@@ -1,19 +1,21 @@
-// What the program `rate` prints for a line of its input, and what a program says of a line. Each function writes into `out` from `at` on, and answers the place after
-// what it wrote. A bound on that place shows that the next one has room.
-ghost use mathlib.Core.Path.{_≡_};
+// What the program `rate` prints for a line of its input, and what a program says of a line. Each
+// function writes into `out` from `at` on, and answers the place after what it wrote. A bound on
+// that place shows that the next one has room.
 ghost use Prim.Native.Nat.{_+_, _≤_};
 ghost use lib.ListN.{length};
-ghost use Rattle.rate_text.specs.Answers.{textOf, aboutLine, unreadableText, printedFor, printed};
+ghost use Rattle.rate_text.specs.Answers.{answerRoom, sheetRoom, textOf, aboutLine, unreadableText, printedFor, printed};
 ghost use Rattle.rating.specs.Rate.{answerOf};
 ghost use Rattle.decimals.specs.Decimal.{spaced};
 ghost use Rattle.text.specs.Answer.{saidOf};
-ghost use Rattle.splice.specs.Splice.{splice};
+ghost use Rattle.splice.specs.Put.{Put};
 use decimals::put_byte;
 use decimals::put_decimal;
 use decimals::put_number;
 use rating::rate::Rated;
 use rating::rate::rate;
 use text::bytes::put_bytes;
+use text::line::CASE;
+use text::line::PASSED_OVER;
 use text::line::Read;
 use text::line::read_line;
 
@@ -22,9 +24,9 @@ pub const ROOM: usize = 512;
 
 // Writes each number of a sheet with a blank before it.
 fn put_sheet(out: &mut [u8], at: usize, xs: [u64; 13]) -> usize
-    requires { ⌜ at + 273 ≤ length (now out) ⌝ }
-    ensures { λ r. ⌜ (r ≡ at + length (spaced xs)) × (now (out .exit) ≡ splice (now (out .entry)) at (spaced xs)) ⌝ }
-    ensures { λ r. ⌜ r ≤ at + 273 ⌝ }
+    requires { ⌜ at + sheetRoom ≤ length (now out) ⌝ }
+    ensures { λ r. ⌜ Put (now (out .entry)) at (spaced xs) (now (out .exit)) r ⌝ }
+    ensures { λ r. ⌜ r ≤ at + sheetRoom ⌝ }
 {
     let mut end = at;
     let mut i = 0;
@@ -37,10 +39,9 @@ fn put_sheet(out: &mut [u8], at: usize, xs: [u64; 13]) -> usize
 
 // Writes the line for a case.
 fn put_answer(out: &mut [u8], at: usize, a: Rated) -> usize
-    requires { ⌜ at + 512 ≤ length (now out) ⌝ }
-    ensures { λ r. ⌜ (r ≡ at + length (textOf (answerOf a)))
-        × (now (out .exit) ≡ splice (now (out .entry)) at (textOf (answerOf a))) ⌝ }
-    ensures { λ r. ⌜ r ≤ at + 512 ⌝ }
+    requires { ⌜ at + answerRoom ≤ length (now out) ⌝ }
+    ensures { λ r. ⌜ Put (now (out .entry)) at (textOf (answerOf a)) (now (out .exit)) r ⌝ }
+    ensures { λ r. ⌜ r ≤ at + answerRoom ⌝ }
 {
     let sheet = a.sheet;
     let first = put_decimal(out, at, a.answer as u64);
@@ -52,8 +53,7 @@ fn put_answer(out: &mut [u8], at: usize, a: Rated) -> usize
 // Writes what is said of a line: its number, and a text.
 pub fn put_about(out: &mut [u8], at: usize, number: u64, text: &[u8]) -> usize
     requires { ⌜ at + 25 + length (now text) ≤ length (now out) ⌝ }
-    ensures { λ r. ⌜ (r ≡ at + length (aboutLine number (now (text .entry))))
-        × (now (out .exit) ≡ splice (now (out .entry)) at (aboutLine number (now (text .entry)))) ⌝ }
+    ensures { λ r. ⌜ Put (now (out .entry)) at (aboutLine number (now (text .entry))) (now (out .exit)) r ⌝ }
     ensures { λ r. ⌜ r ≤ at + 25 + length (now (text .entry)) ⌝ }
 {
     let digits = put_bytes(out, at, b"line ");
@@ -63,25 +63,23 @@ pub fn put_about(out: &mut [u8], at: usize, number: u64, text: &[u8]) -> usize
 
 // Writes the line for an unreadable line.
 fn put_unreadable(out: &mut [u8], at: usize, number: u64) -> usize
-    requires { ⌜ at + 512 ≤ length (now out) ⌝ }
-    ensures { λ r. ⌜ (r ≡ at + length (unreadableText number))
-        × (now (out .exit) ≡ splice (now (out .entry)) at (unreadableText number)) ⌝ }
-    ensures { λ r. ⌜ r ≤ at + 512 ⌝ }
+    requires { ⌜ at + answerRoom ≤ length (now out) ⌝ }
+    ensures { λ r. ⌜ Put (now (out .entry)) at (unreadableText number) (now (out .exit)) r ⌝ }
+    ensures { λ r. ⌜ r ≤ at + answerRoom ⌝ }
 {
     put_about(out, at, number, b": unreadable\n")
 }
 
 // Writes what is printed for a line, given its number and what it says.
 pub fn print_said(out: &mut [u8], at: usize, number: u64, said: Read) -> usize
-    requires { ⌜ at + 512 ≤ length (now out) ⌝ }
-    ensures { λ r. ⌜ (r ≡ at + length (printedFor number (saidOf said)))
-        × (now (out .exit) ≡ splice (now (out .entry)) at (printedFor number (saidOf said))) ⌝ }
-    ensures { λ r. ⌜ r ≤ at + 512 ⌝ }
+    requires { ⌜ at + answerRoom ≤ length (now out) ⌝ }
+    ensures { λ r. ⌜ Put (now (out .entry)) at (printedFor number (saidOf said)) (now (out .exit)) r ⌝ }
+    ensures { λ r. ⌜ r ≤ at + answerRoom ⌝ }
 {
-    if said.kind == 0 {
+    if said.kind == PASSED_OVER {
         return at;
     }
-    if said.kind == 1 {
+    if said.kind == CASE {
         let fields = said.fields;
         return put_answer(out, at, rate(fields));
     }
@@ -90,10 +88,9 @@ pub fn print_said(out: &mut [u8], at: usize, number: u64, said: Read) -> usize
 
 // Writes what is printed for a line, given its number and its bytes without the line feed.
 pub fn print_line(out: &mut [u8], at: usize, number: u64, line: &[u8]) -> usize
-    requires { ⌜ at + 512 ≤ length (now out) ⌝ }
-    ensures { λ r. ⌜ (r ≡ at + length (printed number (now (line .entry))))
-        × (now (out .exit) ≡ splice (now (out .entry)) at (printed number (now (line .entry)))) ⌝ }
-    ensures { λ r. ⌜ r ≤ at + 512 ⌝ }
+    requires { ⌜ at + answerRoom ≤ length (now out) ⌝ }
+    ensures { λ r. ⌜ Put (now (out .entry)) at (printed number (now (line .entry))) (now (out .exit)) r ⌝ }
+    ensures { λ r. ⌜ r ≤ at + answerRoom ⌝ }
 {
     print_said(out, at, number, read_line(line))
 }

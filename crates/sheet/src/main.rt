@@ -1,10 +1,13 @@
-// Reads cases from standard input as the program rate does, and prints for each a work sheet for a person. The text of a sheet is
-// `sheet_text::work_sheet`; here are the buffers, the loop over the lines and the writing.
+// Reads cases from standard input as the program rate does, and prints for each a work sheet for a
+// person. The text of a sheet is `sheet_text::work_sheet`; here are the buffers, the loop over the
+// lines and the writing.
 ghost use Prim.Native.Nat.{_≤_};
 ghost use lib.ListN.{length};
+ghost use Rattle.rate_text.specs.Answers.{answerRoom};
 use fields::Case;
 use libc::STDOUT_FILENO;
 use output::send;
+use text::line::CASE;
 use text::line::Read;
 
 // A heading with the case's line number, and its sheet.
@@ -18,9 +21,9 @@ fn show_case(out: &mut [u8], number: u64, x: Case) {
 
 // A line that is no case has the text that the program rate prints for it.
 fn show(out: &mut [u8], number: u64, said: Read)
-    requires { ⌜ 512 ≤ length (now out) ⌝ }
+    requires { ⌜ answerRoom ≤ length (now out) ⌝ }
 {
-    if said.kind == 1 {
+    if said.kind == CASE {
         let fields = said.fields;
         show_case(out, number, fields);
         return;
@@ -29,8 +32,9 @@ fn show(out: &mut [u8], number: u64, said: Read)
     send(out, used);
 }
 
-fn serve(chunk: &mut [u8], line: &mut [u8], out: &mut [u8])
-    requires { ⌜ 512 ≤ length (now out) ⌝ }
+// Each line's sheet.
+fn show_lines(chunk: &mut [u8], line: &mut [u8], out: &mut [u8])
+    requires { ⌜ answerRoom ≤ length (now out) ⌝ }
 {
     let mut from = input::start();
     let mut number: u64 = 0;
@@ -48,7 +52,7 @@ fn serve(chunk: &mut [u8], line: &mut [u8], out: &mut [u8])
 
 fn main() {
     let mut chunk = io::large_buffer();
-    let mut line = [0u8; 1024];
+    let mut line = [0u8; input::LINE];
     let mut out = io::large_buffer();
-    serve(&mut chunk, &mut line, &mut out);
+    show_lines(&mut chunk, &mut line, &mut out);
 }

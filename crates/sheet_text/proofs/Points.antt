@@ -7,8 +7,8 @@ use native.Mathlib.Nat.{pow-suc, one-le-pow, mod-lt}
 use native.Mathlib.Omega.{arith}
 use lib.Dec.{lit<}
 use lib.ListN.{length, length-append}
-use Rattle.decimals.specs.Decimal.{decimal}
-use Rattle.decimals.specs.DecimalLaws.{padded, decimal-small, decimal-large}
+use Rattle.decimals.specs.Decimal.{decimal, padded}
+use Rattle.decimals.specs.Laws.Decimal.{decimal-small, decimal-large}
 use Rattle.splice.specs.Splice.{splice}
 use Rattle.sheet_text.specs.Fixed.{fixed}
 use Rattle.splice.specs.Laws.{splice-after, splice-again}

@@ -2,9 +2,8 @@
 use mathlib.Core.Bool.{cond}
 use mathlib.Core.List.{List, _∷_, _++_}
 use Prim.Native.Nat.{ℕ, zero, suc, _/_, _%_, _^_}
-use lib.IntN.{ℤ, pos, negℤ, ℤ, pos, negℤ}
-use Rattle.decimals.specs.Decimal.{decimal}
-use Rattle.decimals.specs.DecimalLaws.{padded}
+use lib.IntN.{ℤ, pos, negℤ}
+use Rattle.decimals.specs.Decimal.{decimal, padded}
 use Rattle.sheet_text.specs.declared.fixed.Value.{Value}
 
 -- x / 10^d: the whole part in decimal, a point, and the rest in d digits; without decimals the number alone

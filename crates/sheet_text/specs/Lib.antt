@@ -1,1 +1,2 @@
+-- How a work sheet writes its numbers. Assumes nothing.
 pub mod Fixed

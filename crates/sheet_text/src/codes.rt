@@ -1,7 +1,12 @@
-// The fields that are codes, in words.
+// The fields that are codes, in words: a work sheet says beside a number which arrangement, conductor
+// or metal it stands for (docs/RATING.md has the codes).
 ghost use Prim.Native.Nat.{_≤_};
 ghost use lib.ListN.{length};
 use crate::rows::put_row;
+use fields::ARMOUR_METAL;
+use fields::ARRANGEMENT;
+use fields::CONDUCTOR;
+use fields::SHEATH_METAL;
 
 // What the codes stand for, each in the row of its number.
 const ARRANGEMENTS: [u8; 237] = *b"
@@ -38,9 +43,9 @@ pub fn put_words(out: &mut [u8], at: usize, i: usize, code: u32) -> usize
     ensures { λ r. ⌜ r ≤ length (now (out .entry)) ⌝ }
 {
     match i {
-        0 => put_row(out, at, &ARRANGEMENTS, code as usize),
-        1 => put_row(out, at, &CONDUCTORS, code as usize),
-        14 | 17 => put_row(out, at, &METALS, code as usize),
+        ARRANGEMENT => put_row(out, at, &ARRANGEMENTS, code as usize),
+        CONDUCTOR => put_row(out, at, &CONDUCTORS, code as usize),
+        SHEATH_METAL | ARMOUR_METAL => put_row(out, at, &METALS, code as usize),
         _ => at,
     }
 }

@@ -1,4 +1,5 @@
-// The fields of a case, a line for each.
+// The fields of a case, a line for each, in the units that a person reads (docs/FIELDS.md has the
+// units of the fields themselves).
 ghost use Prim.Native.Nat.{_≤_};
 ghost use lib.ListN.{length};
 use crate::codes::put_words;
@@ -7,7 +8,26 @@ use crate::fixed::complement;
 use crate::fixed::plain;
 use crate::line::put_line;
 use crate::rows::put_text;
+use fields::AMBIENT_TEMPERATURE;
+use fields::ARMOUR_DIAMETER;
+use fields::ARMOUR_METAL;
+use fields::ARMOUR_RESISTANCE;
+use fields::ARMOUR_TEMPERATURE;
+use fields::ARRANGEMENT;
+use fields::CONDUCTOR;
+use fields::CONDUCTOR_RESISTANCE;
+use fields::CONDUCTOR_TEMPERATURE;
 use fields::Case;
+use fields::LOSS_FACTOR;
+use fields::SHEATH_METAL;
+use fields::SHEATH_RESISTANCE;
+use fields::SHEATH_TEMPERATURE;
+use fields::T1;
+use fields::T2;
+use fields::T3;
+use fields::T4;
+use fields::VOLTAGE;
+use fields::WIDTH;
 
 // A row for each field: the symbol in 13 bytes, then the unit, the meaning and the limits.
 const LABELS: [u8; 1312] = *b"  arrangement  [1 to 5]
@@ -38,23 +58,29 @@ const LABELS: [u8; 1312] = *b"  arrangement  [1 to 5]
   T4           K.m/W     surface to ambient [0.01 to 20]
 ";
 
-// How many decimals field i has in its unit.
+// The column's bytes from the point on.
+const AFTER_POINT: usize = 7;
+
+// How many decimals field i has in its unit. Of the fields with two most are lengths and
+// temperatures.
 fn decimals(i: usize) -> usize
     ensures { λ r. ⌜ r ≤ 6 ⌝ }
 {
     match i {
-        2..=4 | 6..=9 | 11 | 13 | 16 | 19..=21 => 2,
-        5 | 15 | 18 => 3,
-        12 => 5,
-        22..=25 => 6,
-        _ => 0,
+        ARRANGEMENT | CONDUCTOR | VOLTAGE | SHEATH_METAL | ARMOUR_METAL => 0,
+        CONDUCTOR_RESISTANCE | SHEATH_RESISTANCE | ARMOUR_RESISTANCE => 3,
+        LOSS_FACTOR => 5,
+        T1 | T2 | T3 | T4 => 6,
+        _ => 2,
     }
 }
 
 // Field i: the temperatures are in two's complement.
 fn value(i: usize, x: u32) -> Value {
     match i {
-        3 | 4 | 16 | 19 => complement(x),
+        CONDUCTOR_TEMPERATURE | AMBIENT_TEMPERATURE | SHEATH_TEMPERATURE | ARMOUR_TEMPERATURE => {
+            complement(x)
+        }
         _ => plain(x),
     }
 }
@@ -64,10 +90,10 @@ fn put_field(out: &mut [u8], at: usize, i: usize, x: u32, armour: bool) -> usize
     requires { ⌜ at ≤ length (now out) ⌝ }
     ensures { λ r. ⌜ r ≤ length (now (out .entry)) ⌝ }
 {
-    if !armour & (17 <= i) & (i <= 21) {
+    if !armour & (ARMOUR_METAL <= i) & (i <= ARMOUR_DIAMETER) {
         return at;
     }
-    let at = put_line(out, at, &LABELS, i, value(i, x), decimals(i), 7);
+    let at = put_line(out, at, &LABELS, i, value(i, x), decimals(i), AFTER_POINT);
     let at = put_words(out, at, i, x);
     put_text(out, at, b"\n")
 }
@@ -78,7 +104,7 @@ pub fn put_fields(out: &mut [u8], at: usize, x: Case, armour: bool) -> usize
 {
     let mut at = at;
     let mut i = 0;
-    while i < 26 {
+    while i < WIDTH {
         at = put_field(out, at, i, x[i], armour);
         i += 1;
     }

@@ -5,7 +5,7 @@ ghost use lib.IntN.{pos};
 ghost use lib.ListN.{length};
 ghost use mir.Syntax.{w32};
 ghost use mir.Val.{toZ};
-ghost use Rattle.splice.specs.Splice.{splice};
+ghost use Rattle.splice.specs.Put.{Put};
 ghost use Rattle.sheet_text.specs.Fixed.{fixed, number, signed};
 use decimals::put_byte;
 use decimals::put_decimal;
@@ -52,11 +52,12 @@ fn power_of_ten(n: usize) -> u64
     p
 }
 
-// x / 10^decimals, with exactly that many digits after the point, and no point where there are none. The digits after the
-// point are written with a one in front of them, which keeps their zeros; the point then takes the one's place.
+// x / 10^decimals, with exactly that many digits after the point, and no point where there are
+// none. The digits after the point are written with a one in front of them, which keeps their
+// zeros; the point then takes the one's place.
 pub fn put_fixed(out: &mut [u8], at: usize, x: u64, decimals: usize) -> usize
     requires { ⌜ (at + 40 ≤ length (now out)) × (decimals ≤ 16) ⌝ }
-    ensures { λ r. ⌜ (r ≡ at + length (fixed decimals x)) × (now (out .exit) ≡ splice (now (out .entry)) at (fixed decimals x)) ⌝ }
+    ensures { λ r. ⌜ Put (now (out .entry)) at (fixed decimals x) (now (out .exit)) r ⌝ }
 {
     if decimals == 0 {
         return put_decimal(out, at, x);
@@ -71,7 +72,7 @@ pub fn put_fixed(out: &mut [u8], at: usize, x: u64, decimals: usize) -> usize
 // The same with a minus sign where the value is below zero.
 pub fn put_signed(out: &mut [u8], at: usize, v: Value, decimals: usize) -> usize
     requires { ⌜ (at + 41 ≤ length (now out)) × (decimals ≤ 16) ⌝ }
-    ensures { λ r. ⌜ (r ≡ at + length (signed decimals v)) × (now (out .exit) ≡ splice (now (out .entry)) at (signed decimals v)) ⌝ }
+    ensures { λ r. ⌜ Put (now (out .entry)) at (signed decimals v) (now (out .exit)) r ⌝ }
 {
     if v.negative {
         let digits = put_byte(out, at, b'-');

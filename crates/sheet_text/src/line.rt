@@ -1,4 +1,5 @@
-// A value with its label: the symbol before it, the unit and the meaning after it.
+// A value with its label: the symbol before it, the unit and the meaning after it. The points of all
+// values stand below each other.
 ghost use Prim.Native.Nat.{_≤_};
 ghost use lib.ListN.{length};
 use crate::fixed::Value;
@@ -19,8 +20,9 @@ fn tail(decimals: usize) -> usize
     if decimals == 0 { 0 } else { decimals + 1 }
 }
 
-// A value in a column of ten bytes before the point and `width` from the point on, so that all points stand below each
-// other. It is written aside first, since its length decides how many blanks stand before it.
+// A value in a column of ten bytes before the point and `width` from the point on, so that all
+// points stand below each other. It is written aside first, since its length decides how many
+// blanks stand before it.
 fn put_value(out: &mut [u8], at: usize, v: Value, decimals: usize, width: usize) -> usize
     requires { ⌜ (at ≤ length (now out)) × (decimals ≤ 16) ⌝ }
     ensures { λ r. ⌜ r ≤ length (now (out .entry)) ⌝ }

@@ -1,4 +1,5 @@
-// The numbers of a rated case, a line for each.
+// The numbers of a rated case, a line for each, in the units that a person reads (docs/RATING.md has
+// their order and what they mean).
 ghost use Prim.Native.Nat.{_≤_};
 ghost use lib.ListN.{length};
 use crate::fixed::Value;
@@ -21,15 +22,35 @@ const LABELS: [u8; 615] = *b"  R'           uohm/m    conductor, d.c., at theta_
   E            K/A^2     rise by the current / I^2
 ";
 
+// Numbers of a sheet that are told apart, and how many there are.
+const RA: usize = 2;
+
+const YS: usize = 4;
+
+const YP: usize = 5;
+
+const W: usize = 9;
+
+const WD: usize = 10;
+
+const DD: usize = 11;
+
+const E: usize = 12;
+
+const NUMBERS: usize = 13;
+
+// The column's bytes from the point on.
+pub(crate) const AFTER_POINT: usize = 17;
+
 // How many decimals number i has in its unit.
 fn decimals(i: usize) -> usize
     ensures { λ r. ⌜ r ≤ 16 ⌝ }
 {
     match i {
-        0..=3 | 6..=9 => 10,
-        11 => 9,
-        12 => 16,
-        _ => 12,
+        YS | YP | WD => 12,
+        DD => 9,
+        E => 16,
+        _ => 10,
     }
 }
 
@@ -38,24 +59,24 @@ fn put_number(out: &mut [u8], at: usize, i: usize, x: u64, armour: bool) -> usiz
     requires { ⌜ at ≤ length (now out) ⌝ }
     ensures { λ r. ⌜ r ≤ length (now (out .entry)) ⌝ }
 {
-    if !armour & ((i == 2) | (i == 9)) {
+    if !armour & ((i == RA) | (i == W)) {
         return at;
     }
     let v = Value {
         negative: false,
         size: x,
     };
-    let at = put_line(out, at, &LABELS, i, v, decimals(i), 17);
+    let at = put_line(out, at, &LABELS, i, v, decimals(i), AFTER_POINT);
     put_text(out, at, b"\n")
 }
 
-pub fn put_numbers(out: &mut [u8], at: usize, sheet: [u64; 13], armour: bool) -> usize
+pub fn put_numbers(out: &mut [u8], at: usize, sheet: [u64; NUMBERS], armour: bool) -> usize
     requires { ⌜ at ≤ length (now out) ⌝ }
     ensures { λ r. ⌜ r ≤ length (now (out .entry)) ⌝ }
 {
     let mut at = at;
     let mut i = 0;
-    while i < 13 {
+    while i < NUMBERS {
         at = put_number(out, at, i, sheet[i], armour);
         i += 1;
     }

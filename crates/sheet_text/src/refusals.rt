@@ -1,4 +1,5 @@
-// A refusal, by its number.
+// A refusal, by its number: its word and its rule (docs/RATING.md), so that a person sees what to
+// change.
 ghost use Prim.Native.Nat.{_≤_};
 ghost use lib.ListN.{length};
 use crate::rows::put_row;

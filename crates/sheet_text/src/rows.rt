@@ -1,5 +1,6 @@
-// Text put into a slice at a place. Each writer takes a place within the slice, writes what fits and answers the place after
-// it, which is within the slice again: so a chain of them needs no count of what was written before.
+// Text put into a slice at a place. Each writer takes a place within the slice, writes what fits
+// and answers the place after it, which is within the slice again: so a chain of them needs no
+// count of what was written before.
 ghost use Prim.Native.Nat.{_+_, _≤_};
 ghost use lib.ListN.{length};
 use text::gather::keep;
@@ -28,7 +29,8 @@ pub fn put_gap(out: &mut [u8], at: usize, used: usize, width: usize) -> usize
     put_part(out, at, b"                                ", used, width)
 }
 
-// Where row n of a text starts, which has a line feed after each row; or its end, where it has no such row.
+// Where row n of a text starts, which has a line feed after each row; or its end, where it has no
+// such row.
 pub fn row_start(text: &[u8], n: usize) -> usize
     ensures { λ r. ⌜ r ≤ length (now (text .entry)) ⌝ }
 {

@@ -1,14 +1,20 @@
-// The whole work sheet, with a blank line at its end.
+// The whole work sheet: the fields, then the numbers and the rating or the refusal, and a blank line
+// at its end.
 ghost use Prim.Native.Nat.{_≤_};
 ghost use lib.ListN.{length};
 use crate::field_rows::put_fields;
 use crate::fixed::plain;
 use crate::line::put_line;
+use crate::numbers::AFTER_POINT;
 use crate::numbers::put_numbers;
 use crate::refusals::put_refusal;
 use crate::rows::put_text;
+use fields::ARRANGEMENT;
 use fields::Case;
 use rating::rate::Rated;
+
+// The arrangement that has armour.
+const ARMOURED: u32 = 5;
 
 // The sheet and the rating of a case that is not refused.
 fn put_rated(out: &mut [u8], at: usize, r: Rated, armour: bool) -> usize
@@ -25,7 +31,7 @@ fn put_rated(out: &mut [u8], at: usize, r: Rated, armour: bool) -> usize
         0,
         plain(r.rating),
         3,
-        17,
+        AFTER_POINT,
     );
     put_text(out, at, b"\n")
 }
@@ -46,7 +52,7 @@ pub fn put_sheet(out: &mut [u8], at: usize, x: Case, r: Rated) -> usize
     requires { ⌜ at ≤ length (now out) ⌝ }
     ensures { λ n. ⌜ n ≤ length (now (out .entry)) ⌝ }
 {
-    let armoured = x[0] == 5;
+    let armoured = x[ARRANGEMENT] == ARMOURED;
     let at = put_fields(out, at, x, armoured | (r.answer != 0));
     let at = put_verdict(out, at, r, armoured);
     put_text(out, at, b"\n")

@@ -15,7 +15,7 @@ use lib.Seq.{drop-cons}
 use Rattle.text.specs.declared.number.Reading.{Reading}
 use Rattle.text.specs.declared.number.Reading.the-variants.{Number, Nothing}
 use Rattle.text.specs.Number.{isDigit, every, valueFrom, value, readDigits}
-use Rattle.text.specs.NumberLaws.{is-digit, is-below-digits, is-above-digits}
+use Rattle.text.specs.Laws.Number.{is-digit, is-below-digits, is-above-digits}
 use Rattle.text.specs.Words.{isEmpty}
 
 -- what the digits s say that follow digits of the value x

@@ -1,6 +1,5 @@
 -- What a line says, as the struct that the code hands back: a kind, and the numbers, which are all 0 but in a case. Assumes nothing.
 use mathlib.Core.Bool.{cond}
-use mathlib.Core.Path.{_≡_, refl}
 use Prim.Native.Nat.{ℕ}
 use lib.Dec.{eqb}
 use lib.ListN.{replicate}
@@ -16,12 +15,6 @@ answer passedOver = noCase 0
 answer (aCase xs) = record { kind = 1; fields = xs }
 answer unreadable = noCase 2
 
--- what a struct says; so a struct of `answer` says what it was made of, and nothing is lost on the way
+-- what a struct says
 unfoldable pub saidOf : Read → Said
 saidOf r = cond (eqb (r .kind) 0) passedOver (cond (eqb (r .kind) 1) (aCase (r .fields)) unreadable)
-
-pub said-answer : (s : Said) → saidOf (answer s) ≡ s
-unfolding saidOf answer noCase
-said-answer passedOver = refl
-said-answer (aCase xs) = refl
-said-answer unreadable = refl

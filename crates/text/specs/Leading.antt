@@ -1,31 +1,17 @@
--- Digits that stand in a line from one place to another: how a loop that reads them goes on by one, and that they are a word, and what
--- it says, where no word goes on after them. Assumes nothing.
+-- Digits that stand in a line from one place to another: where they end, their value, and whether they are a number. Assumes nothing.
 use mathlib.Core.Bool.{Bool, true, _&&_}
-use mathlib.Core.List.{List, [], _∷_}
-use mathlib.Core.Path.{_≡_, refl, ap, _∙_}
-use Prim.Native.Nat.{ℕ, _+_, _-_, _*_, _^_, _≤_, _<_, min}
-use native.Mathlib.Nat.{le-refl, lt-of-lt-of-le, pow-suc, pow-le-pow-right}
-use native.Mathlib.Numerals.{add-one}
-use native.Mathlib.Omega.{arith}
-use borrow.Author.Tests.{le-leb, ne-eqb, ltb-true, leb-true}
-use lib.Dec.{leb, ltb, lit<}
-use lib.ListN.{length, getD, drop}
-use Rattle.bools.specs.Tests.{both}
-use Rattle.text.specs.declared.number.Reading.the-variants.{Number}
+use mathlib.Core.List.{List}
+use mathlib.Core.Path.{_≡_}
+use Prim.Native.Nat.{ℕ, _+_, _≤_, min}
+use lib.Dec.{leb, ltb}
+use lib.ListN.{length}
 use Rattle.text.specs.Gather.{piece}
-use Rattle.text.specs.Number.{isDigit, every, valueFrom, value, readDigits, readNumber}
-use Rattle.text.specs.NumberLaws.{is-digit, every-append, every-at, every-weaker, differ, value-snoc, not-empty}
-use Rattle.text.specs.Pieces.{piece-none, piece-more, piece-length, piece-then}
-use Rattle.text.specs.WordLaws.{digit-ink, run-past}
-use Rattle.text.specs.Words.{isInk, run}
+use Rattle.text.specs.Number.{isDigit, every, value}
+use Rattle.text.specs.Words.{runEnd}
 
 -- where the digits from `from` on end, of which at most ten are taken
 unfoldable pub digitsEnd : List ℕ → ℕ → ℕ
-digitsEnd s from = min (from + 10) (from + run isDigit (drop from s))
-
-pub digits-near : (s : List ℕ) (from to : ℕ) → to ≡ digitsEnd s from → to ≤ from + 10
-unfolding digitsEnd
-digits-near s from to e = omega arith
+digitsEnd s from = min (from + 10) (runEnd isDigit s from)
 
 -- digits of the value x
 pub record DigitsIn (s : List ℕ) (from to x : ℕ) : Type 0 where
@@ -34,66 +20,11 @@ pub record DigitsIn (s : List ℕ) (from to x : ℕ) : Type 0 where
   pub digits : every isDigit (piece from to s) ≡ true
   pub amount : value (piece from to s) ≡ x
 
-pub digits-none : (s : List ℕ) (from : ℕ) → from ≤ length s → DigitsIn s from from 0
-unfolding every value valueFrom
-digits-none s from h =
-    record {
-      forward = le-refl from;
-      within = h;
-      digits = ap (every isDigit) (piece-none s from);
-      amount = ap value (piece-none s from);
-    }
-
-pub digits-more : (s : List ℕ) (from i x : ℕ) → DigitsIn s from i x → i < length s → 48 ≤ getD s i 0 → getD s i 0 ≤ 57
-    → DigitsIn s from (i + 1) (x * 10 + (getD s i 0 - 48))
-unfolding every value
-digits-more s from i x d k low high =
-    let b = getD s i 0 in
-    let more = piece-more s from i (d .forward) k in
-    record {
-      forward = omega arith;
-      within = omega arith;
-      digits = ap (every isDigit) more ∙ every-append isDigit (piece from i s) (b ∷ []) (d .digits) (rw (is-digit b low high));
-      amount = ap value more ∙ value-snoc 0 (piece from i s) b ∙ ap (λ (v : ℕ). v * 10 + (b - 48)) (d .amount);
-    }
+-- all digits from `from` on, or ten of them
+pub record LeadingDigits (s : List ℕ) (from to x : ℕ) : Type 0 where
+  pub end : to ≡ digitsEnd s from
+  pub digits : DigitsIn s from to x
 
 -- whether digits from `from` to `to`, of the value x, are a number of at most `limit`
 unfoldable pub isNumber : ℕ → ℕ → ℕ → ℕ → Bool
 isNumber from to x limit = ltb from to && leb x limit
-
-pub number-test : (from to x limit : ℕ) → isNumber from to x limit ≡ true → (from < to) × (x ≤ limit)
-unfolding isNumber
-number-test from to x limit e =
-    let tests = both (ltb from to) (leb x limit) e in
-    (ltb-true from to (tests .0), leb-true x limit (tests .1))
-
--- after i digits a value is below 10^i
-pub small-more : (i x b : ℕ) → x < 10 ^ i → b ≤ 57 → x * 10 + (b - 48) < 10 ^ (i + 1)
-small-more i x b h k = omega (arith, ap (λ (n : ℕ). 10 ^ n) (add-one i) ∙ pow-suc 10 i)
-
-pub small-most : (i x : ℕ) → x < 10 ^ i → i ≤ 10 → x < 10000000000
-small-most i x h k = lt-of-lt-of-le h (pow-le-pow-right {n = 10} (lit< tt) k)
-
-module _ (s : List ℕ) (from to x : ℕ) (d : DigitsIn s from to x) where
-  size : length (piece from to s) ≡ to - from
-  size = piece-length s from to (d .within)
-
-  pub word-ends : run isInk (drop to s) ≡ 0 → to ≡ from + run isInk (drop from s)
-  word-ends h =
-      let ink : run isInk (drop from s) ≡ to - from =
-      ap (run isInk) (piece-then s from to (d .forward)) ∙ run-past isInk _ _ (every-weaker isDigit isInk digit-ink _ (d .digits)) h ∙ size
-      in
-      omega arith
-
-  some : from < to → 0 < length (piece from to s)
-  some h = omega (arith, size)
-
-  pub digits-say : (limit : ℕ) → from < to → x ≤ limit → readDigits limit (piece from to s) ≡ Number x
-  unfolding readDigits
-  digits-say limit h fits = simp (not-empty (piece from to s) (some h), d .digits, d .amount, le-leb x limit fits)
-
-  pub word-says : from < to → x ≤ 4294967295 → readNumber (piece from to s) ≡ Number x
-  unfolding readNumber isDigit
-  word-says h fits =
-      let first = every-at isDigit (piece from to s) (d .digits) 0 (some h) in
-      rw (ne-eqb _ 45 (differ isDigit _ 45 first refl)) (digits-say 4294967295 h fits)

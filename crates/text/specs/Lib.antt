@@ -1,15 +1,9 @@
-pub mod After
+-- What a line of text says, and how lines are gathered from chunks; laws of both. Assumes nothing.
 pub mod Answer
-pub mod CaseLaws
-pub mod Examples
+pub mod Bytes
 pub mod Gather
-pub mod GatherLaws
 pub mod Leading
 pub mod Line
 pub mod Number
-pub mod NumberLaws
-pub mod Pieces
-pub mod RoundTrip
-pub mod Runs
-pub mod WordLaws
 pub mod Words
+pub mod Laws

@@ -1,15 +1,20 @@
 -- The number that a word says: digits, or a minus sign and digits. Assumes nothing.
-use mathlib.Core.Bool.{Bool, true, cond, not, _&&_}
+use mathlib.Core.Bool.{Bool, true, cond, not, _&&_, _||_}
 use mathlib.Core.List.{List, [], _∷_}
-use Prim.Native.Nat.{ℕ, _+_, _-_, _*_, _%_}
+use Prim.Native.Nat.{ℕ, _+_, _-_, _*_, _%_, _^_, _<_}
 use lib.Dec.{leb, eqb}
 use lib.ListN.{drop, getD}
 use Rattle.text.specs.declared.number.Reading.{Reading}
 use Rattle.text.specs.declared.number.Reading.the-variants.{Number, Nothing}
+use Rattle.text.specs.Bytes.{minusSign, digitZero, digitNine}
 use Rattle.text.specs.Words.{isEmpty}
 
 unfoldable pub isDigit : ℕ → Bool
-isDigit b = leb 48 b && leb b 57
+isDigit b = leb digitZero b && leb b digitNine
+
+-- digits and the minus sign
+unfoldable pub isNumeral : ℕ → Bool
+isNumeral b = isDigit b || eqb b minusSign
 
 -- all bytes pass a test
 unfoldable pub every : (ℕ → Bool) → List ℕ → Bool
@@ -19,7 +24,7 @@ every p (b ∷ s) = p b && every p s
 -- the value of digits that follow digits of the value x
 unfoldable pub valueFrom : ℕ → List ℕ → ℕ
 valueFrom x [] = x
-valueFrom x (b ∷ s) = valueFrom (x * 10 + (b - 48)) s
+valueFrom x (b ∷ s) = valueFrom (x * 10 + (b - digitZero)) s
 
 unfoldable pub value : List ℕ → ℕ
 value s = valueFrom 0 s
@@ -35,4 +40,8 @@ negated Nothing = Nothing
 
 -- digits to 4294967295, or a minus sign and digits to 2147483648
 unfoldable pub readNumber : List ℕ → Reading
-readNumber w = cond (eqb (getD w 0 0) 45) (negated (readDigits 2147483648 (drop 1 w))) (readDigits 4294967295 w)
+readNumber w = cond (eqb (getD w 0 0) minusSign) (negated (readDigits 2147483648 (drop 1 w))) (readDigits 4294967295 w)
+
+-- every number is below 2^32
+unfoldable pub Below32 : List ℕ → Type 0
+Below32 xs = (i : ℕ) → getD xs i 0 < 2 ^ 32

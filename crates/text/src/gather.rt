@@ -1,33 +1,38 @@
-// A stream cut into lines: the place of a line feed in a chunk, and the part of a line that is kept.
+// A stream cut into lines: the place of a line feed in a chunk, and the part of a line that is
+// kept.
 ghost use mathlib.Core.Bool.{true};
 ghost use mathlib.Core.Path.{_≡_};
 ghost use Prim.Native.Nat.{_+_, _-_, _≤_, min};
-ghost use lib.ListN.{drop, length};
+ghost use lib.ListN.{length};
 ghost use Rattle.text.specs.Gather.{isInLine, kept};
-ghost use Rattle.splice.specs.Splice.{splice};
-ghost use Rattle.text.specs.Words.{run};
+ghost use Rattle.text.specs.Words.{runEnd};
+ghost use Rattle.splice.specs.Put.{Put};
+use super::line::LONGEST;
+
+// Room for a line: a byte more than the longest has, so that a line that is too long is seen to be
+// so.
+pub const ROOM: usize = LONGEST + 1;
 
 // Whether no line feed stands among the eight bytes from `i` on.
 fn eight_in_line(chunk: &[u8], i: usize) -> bool
     requires { ⌜ i + 8 ≤ length (now chunk) ⌝ }
-    ensures { λ r. ⌜ (r ≡ true → i + run isInLine (drop i (now (chunk .entry)))
-        ≡ i + 8 + run isInLine (drop (i + 8) (now (chunk .entry)))) ⌝ }
+    ensures { λ r. ⌜ (r ≡ true → runEnd isInLine (now (chunk .entry)) i ≡ runEnd isInLine (now (chunk .entry)) (i + 8)) ⌝ }
 {
-    (chunk[i] != 10)
-        & (chunk[i + 1] != 10)
-        & (chunk[i + 2] != 10)
-        & (chunk[i + 3] != 10)
-        & (chunk[i + 4] != 10)
-        & (chunk[i + 5] != 10)
-        & (chunk[i + 6] != 10)
-        & (chunk[i + 7] != 10)
+    (chunk[i] != b'\n')
+        & (chunk[i + 1] != b'\n')
+        & (chunk[i + 2] != b'\n')
+        & (chunk[i + 3] != b'\n')
+        & (chunk[i + 4] != b'\n')
+        & (chunk[i + 5] != b'\n')
+        & (chunk[i + 6] != b'\n')
+        & (chunk[i + 7] != b'\n')
 }
 
-// A place from which on the first line feed is the one from `from` on, and less than eight bytes away, or the end is. Eight bytes
-// are compared at once, where one after another would each be a branch.
-fn near_line_feed(chunk: &[u8], from: usize) -> usize
-    ensures { λ r. ⌜ from + run isInLine (drop from (now (chunk .entry)))
-        ≡ r + run isInLine (drop r (now (chunk .entry))) ⌝ }
+// A place from which on the first line feed is the one from `from` on, and less than eight bytes
+// away, or the end is. Eight bytes are compared at once, where one after another would each be a
+// branch.
+fn near_feed(chunk: &[u8], from: usize) -> usize
+    ensures { λ r. ⌜ runEnd isInLine (now (chunk .entry)) from ≡ runEnd isInLine (now (chunk .entry)) r ⌝ }
 {
     let mut i = from;
     while i < chunk.len() {
@@ -44,11 +49,11 @@ fn near_line_feed(chunk: &[u8], from: usize) -> usize
 
 // The place of the first line feed from `from` on, or the end.
 pub fn line_feed(chunk: &[u8], from: usize) -> usize
-    ensures { λ r. ⌜ r ≡ from + run isInLine (drop from (now (chunk .entry))) ⌝ }
+    ensures { λ r. ⌜ r ≡ runEnd isInLine (now (chunk .entry)) from ⌝ }
 {
-    let mut i = near_line_feed(chunk, from);
+    let mut i = near_feed(chunk, from);
     while i < chunk.len() {
-        if chunk[i] == 10 {
+        if chunk[i] == b'\n' {
             return i;
         }
         i += 1;
@@ -78,11 +83,11 @@ fn kept_count(room: usize, chunk: &[u8], from: usize, to: usize) -> usize
     least(room, size)
 }
 
-// Appends the chunk's bytes from `from` to `to` to the `len` bytes that the line has, as many as there is room for, and
-// answers the new length. In a room of 1024 bytes a line that is too long is still seen to be so.
+// Appends the chunk's bytes from `from` to `to` to the `len` bytes that the line has, as many as
+// there is room for, and answers the new length.
 pub fn keep(line: &mut [u8], len: usize, chunk: &[u8], from: usize, to: usize) -> usize
-    ensures { λ r. ⌜ (let k = kept (length (now (line .entry)) - len) from to (now (chunk .entry)) in
-        (r ≡ len + length k) × (now (line .exit) ≡ splice (now (line .entry)) len k)) ⌝ }
+    ensures { λ r. ⌜ Put (now (line .entry)) len (kept (length (now (line .entry)) - len) from to (now (chunk .entry)))
+        (now (line .exit)) r ⌝ }
 {
     let room = less(line.len(), len);
     let count = kept_count(room, chunk, from, to);

@@ -1,13 +1,15 @@
-// A line read as a case.
+// A line read as a case: whether it is one, and its numbers (docs/FIELDS.md). A line of blanks alone,
+// or that begins with `#`, is passed over, so that a file of cases can have remarks.
 ghost use mathlib.Core.Path.{_≡_};
-ghost use Prim.Native.Nat.{_+_, _≤_};
-ghost use lib.ListN.{drop, length};
+ghost use Prim.Native.Nat.{_≤_};
+ghost use lib.ListN.{length};
 ghost use Rattle.text.specs.Answer.{answer, noCase};
 ghost use Rattle.text.specs.Gather.{piece};
 ghost use Rattle.text.specs.Line.{fields, readLine, says, textLength};
 ghost use Rattle.fields.specs.Fields.{width};
 ghost use Rattle.text.specs.Number.{readNumber};
-ghost use Rattle.text.specs.Words.{isInk, run};
+ghost use Rattle.text.specs.Words.{isInk, runEnd};
+use crate::number::LARGEST;
 use crate::number::Reading;
 use crate::number::is_number;
 use crate::number::leading_digits;
@@ -15,14 +17,23 @@ use crate::number::read_number;
 use crate::words::is_past_word;
 use crate::words::skip_blanks;
 use crate::words::skip_word;
+use fields::Case;
+use fields::WIDTH;
 
-// How many numbers a case has.
-pub const WIDTH: usize = 26;
+// The most bytes of a line that is read, without its line feed.
+pub const LONGEST: usize = 1023;
 
-// What a line says: 0 passed over, 1 a case with its numbers, 2 unreadable. The fields are 0 but in a case.
+// What a line is.
+pub const PASSED_OVER: u32 = 0;
+
+pub const CASE: u32 = 1;
+
+pub const UNREADABLE: u32 = 2;
+
+// What a line says: what it is, and the numbers of a case. The fields are 0 but in a case.
 pub struct Read {
     pub kind: u32,
-    pub fields: [u32; WIDTH],
+    pub fields: Case,
 }
 
 pub fn no_case(kind: u32) -> Read
@@ -40,16 +51,17 @@ struct Word {
     said: Reading,
 }
 
-// The word at `from`. The usual word has digits alone and is passed over once; any other is passed to its end and then read.
+// The word at `from`. The usual word has digits alone and is passed over once; any other is passed
+// to its end and then read.
 fn read_word(s: &[u8], from: usize) -> Word
     requires { ⌜ from ≤ length (now s) ⌝ }
-    ensures { λ r. ⌜ (r .to ≡ from + run isInk (drop from (now (s .entry))))
+    ensures { λ r. ⌜ (r .to ≡ runEnd isInk (now (s .entry)) from)
         × (r .said ≡ readNumber (piece from (r .to) (now (s .entry)))) ⌝ }
 {
     if 10 <= s.len() - from {
         let digits = leading_digits(s, from);
         let to = digits.to;
-        if is_number(from, to, digits.value, 4294967295) {
+        if is_number(from, to, digits.value, LARGEST) {
             if is_past_word(s, to) {
                 return Word {
                     to,
@@ -79,16 +91,16 @@ fn read_fields(s: &[u8]) -> Read
                 fields[i] = x;
             }
             Reading::Nothing => {
-                return no_case(2);
+                return no_case(UNREADABLE);
             }
         }
         at = word.to;
         i += 1;
     }
     if skip_blanks(s, at) < s.len() {
-        return no_case(2);
+        return no_case(UNREADABLE);
     }
-    Read { kind: 1, fields }
+    Read { kind: CASE, fields }
 }
 
 // A line with no carriage return at its end.
@@ -96,10 +108,10 @@ fn read_text(s: &[u8]) -> Read
     ensures { λ r. ⌜ r ≡ answer (says width (now (s .entry))) ⌝ }
 {
     if s.len() <= skip_blanks(s, 0) {
-        return no_case(0);
+        return no_case(PASSED_OVER);
     }
-    if s[0] == 35 {
-        return no_case(0);
+    if s[0] == b'#' {
+        return no_case(PASSED_OVER);
     }
     read_fields(s)
 }
@@ -112,7 +124,7 @@ fn text_length(line: &[u8]) -> usize
     if n == 0 {
         return 0;
     }
-    if line[n - 1] == 13 {
+    if line[n - 1] == b'\r' {
         return n - 1;
     }
     n
@@ -122,8 +134,8 @@ fn text_length(line: &[u8]) -> usize
 pub fn read_line(line: &[u8]) -> Read
     ensures { λ r. ⌜ r ≡ answer (readLine (now (line .entry))) ⌝ }
 {
-    if 1023 < line.len() {
-        return no_case(2);
+    if LONGEST < line.len() {
+        return no_case(UNREADABLE);
     }
     let n = text_length(line);
     read_text(&line[..n])

@@ -1,43 +1,43 @@
-// Where a run of blanks or a word ends.
+// Where a run of blanks or a word ends. The numbers of a line are words, and any run of blanks and
+// tabs stands between two of them.
 ghost use mathlib.Core.Bool.{true};
 ghost use mathlib.Core.Path.{_≡_};
-ghost use Prim.Native.Nat.{_+_};
 ghost use lib.ListN.{drop};
-ghost use Rattle.text.specs.Words.{isBlank, isInk, run};
+ghost use Rattle.text.specs.Words.{isBlank, isInk, isKind, run, runEnd};
 
 // A blank or a tab.
 pub fn is_blank(b: u8) -> bool
     ensures { λ r. ⌜ r ≡ isBlank b ⌝ }
 {
-    (b == 32) | (b == 9)
+    (b == b' ') | (b == b'\t')
+}
+
+// The place past a run of blanks, or past a run of other bytes, from `at` on.
+fn skip(s: &[u8], at: usize, blanks: bool) -> usize
+    ensures { λ r. ⌜ r ≡ runEnd (isKind blanks) (now (s .entry)) at ⌝ }
+{
+    let mut i = at;
+    while i < s.len() {
+        if is_blank(s[i]) != blanks {
+            return i;
+        }
+        i += 1;
+    }
+    i
 }
 
 // The place of the first byte from `at` on that is no blank, or the end.
 pub fn skip_blanks(s: &[u8], at: usize) -> usize
-    ensures { λ r. ⌜ r ≡ at + run isBlank (drop at (now (s .entry))) ⌝ }
+    ensures { λ r. ⌜ r ≡ runEnd isBlank (now (s .entry)) at ⌝ }
 {
-    let mut i = at;
-    while i < s.len() {
-        if !is_blank(s[i]) {
-            return i;
-        }
-        i += 1;
-    }
-    i
+    skip(s, at, true)
 }
 
 // The place of the first blank from `at` on, or the end.
 pub fn skip_word(s: &[u8], at: usize) -> usize
-    ensures { λ r. ⌜ r ≡ at + run isInk (drop at (now (s .entry))) ⌝ }
+    ensures { λ r. ⌜ r ≡ runEnd isInk (now (s .entry)) at ⌝ }
 {
-    let mut i = at;
-    while i < s.len() {
-        if is_blank(s[i]) {
-            return i;
-        }
-        i += 1;
-    }
-    i
+    skip(s, at, false)
 }
 
 // Whether no word goes on at `at`: a blank stands there, or the line has ended.

@@ -15,12 +15,6 @@ use Rattle.decimals.proofs.put_leading.Tie as tie
 stored : (l : List ℕ) (at b d : ℕ) → at < length l → b ≡ d → set l at b ≡ splice l at (d ∷ [])
 stored l at b d h e = splice-one l at b h ∙ ap (λ (k : ℕ). splice l at (k ∷ [])) e
 
-returns : tie.Need-returns
-returns c = (omega arith, stored _ _ _ _ (c .before .before .before .pre) (c .before .digit .ensures))
-
-returns-2 : tie.Need-returns-2
-returns-2 c = (omega arith, stored _ _ _ _ (c .before .before .before .pre) (c .before .digit .ensures))
-
 pub put-leading-spec : {M : Type 1} → statement M
 put-leading-spec =
     tie.close
@@ -29,6 +23,6 @@ put-leading-spec =
     (λ c. search needs)
     (λ c. search needs)
     (λ c. search needs)
-    returns
+    (λ c. (omega arith, stored _ _ _ _ (c .before .before .before .pre) (c .before .digit .ensures)))
     (λ c. search needs)
-    returns-2)
+    (λ c. (omega arith, stored _ _ _ _ (c .before .before .before .pre) (c .before .digit .ensures))))

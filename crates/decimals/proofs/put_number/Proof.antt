@@ -7,7 +7,7 @@ use native.Mathlib.Omega.{arith}
 use borrow.Author.Needs.{needs}
 use Rattle.splice.specs.Put.{put-as, put-then}
 use Rattle.decimals.specs.Decimal.{decimal, spaced}
-use Rattle.decimals.specs.DecimalLaws.{count-64}
+use Rattle.decimals.specs.Laws.Decimal.{count-64}
 use Rattle.decimals.proofs.put_number.Statement.{statement}
 use Rattle.decimals.proofs.put_number.Tie as tie
 

@@ -6,17 +6,22 @@ use Rattle.input.proofs.Places.{stop-within, length-within}
 use Rattle.input.proofs.gather.Statement.{statement}
 use Rattle.input.proofs.gather.Tie as tie
 
-slice-aggregate-part : tie.Need-slice-aggregate-part
-slice-aggregate-part c = sym (length-take-le _ _ (c .before .before .before .pre .1))
-
-returns : tie.Need-returns
-returns c =
-    let pre = c .before .before .before .before .before .before .before .before .pre in
-    let kept = c .before .before .keep .ensures in (
-      stop-within _ (pre .0) (pre .1) (c .before .before .before .before .line-feed .ensures),
-      length-within _ _ (pre .2) (kept .0) (kept .1),
+within-buffers : tie.Need-returns
+within-buffers c =
+    let start = c .before .before .before .before .before .before .before .before in
+    let feed = c .before .before .before .before .line-feed .ensures in
+    let kept = c .before .before .keep .ensures in
+    let a = start .args in (
+      stop-within (a .chunk .now) (start .pre .0) (start .pre .1) feed,
+      length-within (a .line .now) _ (start .pre .2) (kept .0) (kept .1),
     )
 
 pub gather-spec : {M : Type 1} → statement M
 gather-spec =
-    tie.close (tie.spec slice-aggregate-part (λ c κs. search needs) (λ c κs. search needs) (λ c. search needs) returns)
+    tie.close
+    (tie.spec
+    (λ c. sym (length-take-le _ _ (c .before .before .before .pre .1)))
+    (λ c κs. search needs)
+    (λ c κs. search needs)
+    (λ c. search needs)
+    within-buffers)

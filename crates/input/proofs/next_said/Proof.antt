@@ -11,7 +11,7 @@ use Rattle.bools.specs.Tests.{other-outcome}
 use Rattle.input.specs.State.{saidHere}
 use Rattle.line_in_place.specs.declared.Line.{Line}
 use Rattle.line_in_place.specs.Standing.{standing}
-use Rattle.line_in_place.specs.StandingLaws.{whole-within}
+use Rattle.line_in_place.specs.Laws.Standing.{whole-within}
 use Rattle.input.proofs.next_said.Statement.{statement}
 use Rattle.input.proofs.next_said.Tie as tie
 

@@ -1,23 +1,18 @@
--- `keep_lines` keeps its positions within the buffers, whose lengths stay; the number of lines that are left falls. Assumes nothing.
-use mathlib.Core.Path.{_≡_, sym}
-use Prim.Native.Nat.{_-_}
-use native.Mathlib.Omega.{arith}
+-- `keep_lines` keeps its positions within the buffers. The invariant: reading does, and the book's buffer keeps its length. The measure
+-- is the count of lines that may still come. Assumes nothing.
+use mathlib.Core.Path.{_≡_}
 use borrow.Author.Needs.{needs}
 use lib.ListN.{length}
-use lib.Seq.{length-take-le}
-use Rattle.input.specs.State.{Ready}
+use Rattle.input.specs.State.{BuffersKept, linesLeft}
 use Rattle.keep.proofs.keep_lines.Statement.{statement}
 use Rattle.keep.proofs.keep_lines.Tie as tie
 
 abbrev Inv-loop : tie.InvT-loop
 Inv-loop book₀ begun chunk₀ line₀ from₀ used₀ whole₀ number₀ t12 t13 book chunk line from used whole number =
-    Ready from (length chunk) × (length book ≡ length book₀) × (length chunk ≡ length chunk₀) × (length line ≡ length line₀)
+    BuffersKept from chunk₀ line₀ chunk line × (length book ≡ length book₀)
 
 abbrev μ-loop : tie.MeasureT-loop
-μ-loop book₀ begun chunk₀ line₀ from₀ used₀ whole₀ number₀ t12 t13 book chunk line from used whole number = 18446744073709551615 - number
-
-slice-aggregate-keep-line : tie.Need-slice-aggregate-keep-line Inv-loop μ-loop
-slice-aggregate-keep-line c = sym (length-take-le _ _ (omega arith))
+μ-loop book₀ begun chunk₀ line₀ from₀ used₀ whole₀ number₀ t12 t13 book chunk line from used whole number = linesLeft number
 
 pub keep-lines-spec : {M : Type 1} → statement M
 keep-lines-spec =
@@ -33,8 +28,6 @@ keep-lines-spec =
     (λ c. search needs)
     (λ c. search needs)
     (λ c. search needs)
-    (λ c. search needs)
-    slice-aggregate-keep-line
     (λ c κs. search needs)
     (λ c. search needs)
     (λ c κs. search needs)

@@ -15,9 +15,6 @@ Inv-loop book₀ word₀ count len₀ i₀ book word len i =
 abbrev μ-loop : tie.MeasureT-loop
 μ-loop book₀ word₀ count len₀ i₀ book word len i = count - i
 
-slice-aggregate-add-word : tie.Need-slice-aggregate-add-word Inv-loop μ-loop
-slice-aggregate-add-word c = sym (length-take-le _ _ (omega arith))
-
 pub put-note-spec : {M : Type 1} → statement M
 put-note-spec =
     tie.close
@@ -28,7 +25,7 @@ put-note-spec =
     (λ c. search needs)
     (λ c κs. search needs)
     (λ c. search needs)
-    slice-aggregate-add-word
+    (λ c. sym (length-take-le _ _ (omega arith)))
     (λ c κs. search needs)
     (λ c. search needs)
     (λ c. search needs)

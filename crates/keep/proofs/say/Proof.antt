@@ -6,9 +6,6 @@ use lib.Seq.{length-take-le}
 use Rattle.keep.proofs.say.Statement.{statement}
 use Rattle.keep.proofs.say.Tie as tie
 
-slice-aggregate-write-all : tie.Need-slice-aggregate-write-all
-slice-aggregate-write-all c = sym (length-take-le _ _ (omega arith))
-
 pub say-spec : {M : Type 1} → statement M
 say-spec =
     tie.close
@@ -16,6 +13,6 @@ say-spec =
     (λ c. search needs)
     (λ c κs. search needs)
     (λ c. search needs)
-    slice-aggregate-write-all
+    (λ c. sym (length-take-le _ _ (omega arith)))
     (λ c κs. search needs)
     (λ c. search needs))

@@ -45,16 +45,15 @@ module _ (b w : List ℕ) (at : ℕ) {m n : List ℕ} {p r : ℕ} where
       go zero e h = no-room e h g
       go (suc k) e h = some-room k e h g
 
-returns : tie.Need-returns
+first-word : tie.Need-returns
 unfolding nextWord
-returns c =
-    let kept-word = c .before .before .keep .ensures in
+first-word c =
     let first = c .before .before .before .before .if1 .taken in
-    simp first (put-as _ _ (whole-kept _ _) kept-word)
+    simp first (put-as _ _ (whole-kept _ _) (c .before .before .keep .ensures))
 
-returns-2 : tie.Need-returns-2
+later-word : tie.Need-returns-2
 unfolding nextWord
-returns-2 c =
+later-word c =
     let kept-word = c .before .before in
     let kept-blank = kept-word .before .before .before .before in
     let later = kept-blank .before .before .before .if1 .left in
@@ -66,9 +65,9 @@ add-word-spec =
     (tie.spec
     (λ c κs. search needs)
     (λ c. search needs)
-    returns
+    first-word
     (λ c. search needs)
     (λ c κs. search needs)
     (λ c κs. search needs)
     (λ c. search needs)
-    returns-2)
+    later-word)

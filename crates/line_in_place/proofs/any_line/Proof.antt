@@ -2,20 +2,20 @@
 -- Assumes nothing.
 use borrow.Author.Needs.{needs}
 use Rattle.line_in_place.specs.Standing.{lineEnd, lineOf}
-use Rattle.line_in_place.specs.StandingLaws.{stands-whole, stands-in-part}
+use Rattle.line_in_place.specs.Laws.Standing.{stands-whole, stands-in-part}
 use Rattle.text.specs.Gather.{piece}
 use Rattle.line_in_place.proofs.any_line.Statement.{statement}
 use Rattle.line_in_place.proofs.any_line.Tie as tie
 
-returns : tie.Need-returns
+whole : tie.Need-returns
 unfolding lineOf lineEnd piece
-returns c =
+whole c =
     let at-feed = c .before .before .before in
     stands-whole _ _ _ _ (at-feed .line-feed .ensures) (c .before .before .if1 .taken) (c .read-line .ensures)
 
-returns-2 : tie.Need-returns-2
+in-part : tie.Need-returns-2
 unfolding lineOf lineEnd
-returns-2 c = stands-in-part _ _ _ _ (c .before .before .line-feed .ensures) (c .before .if1 .left) (c .no-case .ensures)
+in-part c = stands-in-part _ _ _ _ (c .before .before .line-feed .ensures) (c .before .if1 .left) (c .no-case .ensures)
 
 pub any-line-spec : {M : Type 1} → statement M
 any-line-spec =
@@ -26,6 +26,6 @@ any-line-spec =
     (λ c. search needs)
     (λ c. search needs)
     (λ c κs. search needs)
-    returns
+    whole
     (λ c κs. search needs)
-    returns-2)
+    in-part)

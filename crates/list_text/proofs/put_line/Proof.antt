@@ -3,7 +3,7 @@ use mathlib.Core.List.{[], _∷_}
 use native.Mathlib.Omega.{arith}
 use Rattle.splice.specs.Put.{put-then}
 use Rattle.decimals.specs.Decimal.{decimal}
-use Rattle.decimals.specs.DecimalLaws.{count-64}
+use Rattle.decimals.specs.Laws.Decimal.{count-64}
 use borrow.Author.Needs.{needs}
 use Rattle.list_text.proofs.put_line.Statement.{statement}
 use Rattle.list_text.proofs.put_line.Tie as tie

@@ -5,7 +5,7 @@ use Prim.Native.Nat.{ℕ, _+_, _≤_}
 use native.Mathlib.Omega.{arith}
 use Rattle.splice.specs.Put.{put-as, put-then}
 use Rattle.decimals.specs.Decimal.{decimal, spaced, written}
-use Rattle.decimals.specs.DecimalLaws.{count-64, spaced-append}
+use Rattle.decimals.specs.Laws.Decimal.{count-64, spaced-append}
 use borrow.Author.Needs.{needs}
 use Rattle.list_text.proofs.put_numbers.Statement.{statement}
 use Rattle.list_text.proofs.put_numbers.Tie as tie

@@ -7,7 +7,8 @@ use borrow.Author.Needs.{needs}
 use Rattle.splice.specs.Put.{put-as}
 use Rattle.rate_text.specs.Answers.{printedFor, printed}
 use Rattle.text.specs.declared.line.Read.{Read}
-use Rattle.text.specs.Answer.{answer, saidOf, said-answer}
+use Rattle.text.specs.Answer.{answer, saidOf}
+use Rattle.text.specs.Laws.Answer.{said-answer}
 use Rattle.text.specs.Line.{readLine}
 use Rattle.rate_text.proofs.print_line.Statement.{statement}
 use Rattle.rate_text.proofs.print_line.Tie as tie

@@ -27,18 +27,15 @@ module _ (k : ℕ) (r : Read) where
   unfolding saidOf printedFor
   complaint h g = sym (simp (ne-eqb _ 0 h, ne-eqb _ 1 g))
 
-returns : tie.Need-returns
-returns c = (put-as _ _ (nothing _ _ (c .if1 .taken)) (put-nothing _ _), omega arith)
-
-returns-2 : tie.Need-returns-2
-returns-2 c =
+case-printed : tie.Need-returns-2
+case-printed c =
     let done = c .before .before in
     let rated = done .before in
     let text = the-answer _ _ _ (rated .rate .ensures) (rated .before .before .before .if2 .taken) in
     (put-as _ _ text (done .put-answer .ensures .0), done .put-answer .ensures .1)
 
-returns-3 : tie.Need-returns-3
-returns-3 c =
+unreadable-printed : tie.Need-returns-3
+unreadable-printed c =
     let done = c .before .before in
     let at-test = done .before .before in
     let text = complaint _ _ (at-test .before .before .if1 .left) (at-test .if2 .left) in
@@ -48,11 +45,11 @@ pub print-said-spec : {M : Type 1} → statement M
 print-said-spec =
     tie.close
     (tie.spec
-    returns
+    (λ c. (put-as _ _ (nothing _ _ (c .if1 .taken)) (put-nothing _ _), omega arith))
     (λ c κs. search needs)
     (λ c κs. search needs)
     (λ c. search needs)
-    returns-2
+    case-printed
     (λ c κs. search needs)
     (λ c. search needs)
-    returns-3)
+    unreadable-printed)

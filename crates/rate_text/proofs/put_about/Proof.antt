@@ -5,18 +5,18 @@ use borrow.Author.Needs.{needs}
 use Rattle.splice.specs.Put.{put-then}
 use Rattle.rate_text.specs.Answers.{aboutLine}
 use Rattle.decimals.specs.Decimal.{decimal}
-use Rattle.decimals.specs.DecimalLaws.{count-64}
+use Rattle.decimals.specs.Laws.Decimal.{count-64}
 use Rattle.rate_text.proofs.put_about.Statement.{statement}
 use Rattle.rate_text.proofs.put_about.Tie as tie
 
-put-bytes-requires-2 : tie.Need-put-bytes-requires-2
-put-bytes-requires-2 c κs =
+room-for-text : tie.Need-put-bytes-requires-2
+room-for-text c κs =
     let start = c .before .before .before .before .before .before .before .before .before .before .before .before in
     omega (arith, count-64 (start .args .number) (start .fits .number .fits))
 
-returns : tie.Need-returns
+all-put : tie.Need-returns
 unfolding aboutLine
-returns c =
+all-put c =
     let third = c .before .before in
     let second = third .before .before .before .before in
     let first = second .before .before .before .before in
@@ -34,6 +34,6 @@ put-about-spec =
     (λ c. search needs)
     (λ c κs. search needs)
     (λ c κs. search needs)
-    put-bytes-requires-2
+    room-for-text
     (λ c. search needs)
-    returns)
+    all-put)

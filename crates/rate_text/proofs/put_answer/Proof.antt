@@ -8,7 +8,7 @@ use borrow.Author.Needs.{needs}
 use Rattle.splice.specs.Put.{put-as, put-then}
 use Rattle.rate_text.specs.Answers.{textOf}
 use Rattle.decimals.specs.Decimal.{decimal, spaced, written}
-use Rattle.decimals.specs.DecimalLaws.{count-64, spaced-append}
+use Rattle.decimals.specs.Laws.Decimal.{count-64, spaced-append}
 use Rattle.rate_text.proofs.put_answer.Statement.{statement}
 use Rattle.rate_text.proofs.put_answer.Tie as tie
 
@@ -25,18 +25,8 @@ short c =
     let fits : n < 2 ^ 64 = omega (arith, c .before .struct-known .given) in
     omega (arith, count-64 n fits)
 
-put-number-requires : tie.Need-put-number-requires
-put-number-requires c κs = omega (arith, short (c .before .before .before .before))
-
-put-sheet-requires : tie.Need-put-sheet-requires
-put-sheet-requires c κs = omega (arith, short (c .before .before .before .before .before .before .before .before))
-
-put-byte-requires : tie.Need-put-byte-requires
-put-byte-requires c κs =
-    omega (arith, short (c .before .before .before .before .before .before .before .before .before .before .before .before))
-
-returns : tie.Need-returns
-returns c =
+all-put : tie.Need-returns
+all-put c =
     let fourth = c .before .before in
     let third = fourth .before .before .before .before in
     let second = third .before .before .before .before in
@@ -57,8 +47,8 @@ put-answer-spec =
     (λ c. search needs)
     (λ c κs. search needs)
     (λ c. search needs)
-    put-number-requires
-    put-sheet-requires
-    put-byte-requires
+    (λ c κs. omega (arith, short (c .before .before .before .before)))
+    (λ c κs. omega (arith, short (c .before .before .before .before .before .before .before .before)))
+    (λ c κs. omega (arith, short (c .before .before .before .before .before .before .before .before .before .before .before .before)))
     (λ c. search needs)
-    returns)
+    all-put)

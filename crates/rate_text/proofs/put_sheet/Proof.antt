@@ -10,7 +10,7 @@ use lib.ListN.{length, getD, take}
 use lib.Seq.{take-suc, take-all}
 use Rattle.splice.specs.Put.{Put, put-as, put-nothing, put-then}
 use Rattle.decimals.specs.Decimal.{spaced}
-use Rattle.decimals.specs.DecimalLaws.{spaced-append}
+use Rattle.decimals.specs.Laws.Decimal.{spaced-append}
 use Rattle.rate_text.proofs.put_sheet.Statement.{statement}
 use Rattle.rate_text.proofs.put_sheet.Tie as tie
 
@@ -21,35 +21,30 @@ Inv-loop out₀ at xs end₀ i₀ out end i =
 abbrev μ-loop : tie.MeasureT-loop
 μ-loop out₀ at xs end₀ i₀ out end i = 13 - i
 
+nothing-put : (l : List ℕ) (at : ℕ) → Put l at (spaced []) l at
+unfolding spaced
+nothing-put l at = put-nothing l at
+
+-- the next number after the first i
 next : (xs : List ℕ) (i : ℕ) → i < length xs → spaced (take i xs) ++ spaced (getD xs i 0 ∷ []) ≡ spaced (take (i + 1) xs)
 next xs i h =
     sym (spaced-append (take i xs) (getD xs i 0 ∷ []))
     ∙ ap spaced (sym (take-suc xs i 0 h) ∙ ap (λ (n : ℕ). take n xs) (sym (add-one i)))
 
-loop-holds : tie.Need-loop-holds Inv-loop μ-loop
-unfolding spaced
-loop-holds c = (omega arith, omega arith, refl, put-nothing _ _)
-
-loop-again : tie.Need-loop-again Inv-loop μ-loop
-loop-again c =
+one-more-put : tie.Need-loop-again Inv-loop μ-loop
+one-more-put c =
     let call = c .before .before in
     let at-loop = call .before .before .before in
     let xs = at-loop .before .before .args .t3 in
     let i = at-loop .loop .i in
-    let put = at-loop .loop .inv .3 in (
-      omega arith,
-      omega arith,
-      omega arith,
-      put-as _ _ (next xs i (omega arith))
-          (put-then _ _ (spaced (take i xs)) (spaced (getD xs i 0 ∷ [])) (omega arith) put (call .put-number .ensures .0)),
-    )
+    let joined = put-then _ _ _ _ (omega arith) (at-loop .loop .inv .3) (call .put-number .ensures .0) in
+    (omega arith, omega arith, omega arith, put-as _ _ (next xs i (omega arith)) joined)
 
-returns : tie.Need-returns Inv-loop μ-loop
-returns c =
+all-put : tie.Need-returns Inv-loop μ-loop
+all-put c =
     let at-loop = c .before .loop in
     let xs = c .before .before .before .args .t3 in
-    let all = ap spaced (take-all (at-loop .i) xs (omega arith)) in
-    (put-as _ _ all (at-loop .inv .3), omega arith)
+    (put-as _ _ (ap spaced (take-all (at-loop .i) xs (omega arith))) (at-loop .inv .3), omega arith)
 
 pub put-sheet-spec : {M : Type 1} → statement M
 put-sheet-spec =
@@ -57,12 +52,12 @@ put-sheet-spec =
     (tie.spec
     Inv-loop
     μ-loop
-    loop-holds
+    (λ c. (omega arith, omega arith, refl, nothing-put _ _))
     (λ c. omega arith)
     (λ c. omega arith)
     (λ c κs. omega arith)
     (λ c. omega arith)
     (λ c. omega arith)
-    loop-again
+    one-more-put
     (λ c. omega arith)
-    returns)
+    all-put)

@@ -7,8 +7,7 @@ use native.Mathlib.Omega.{arith}
 use borrow.Author.Needs.{needs}
 use borrow.Author.Tests.{leb-true}
 use lib.Dec.{leb}
-use Rattle.line_in_place.specs.Row.{longest}
-use Rattle.fields.specs.Fields.{width}
+use Rattle.line_in_place.specs.Plain.{longestPlain}
 use Rattle.line_in_place.proofs.plain.has_room.Statement.{statement}
 use Rattle.line_in_place.proofs.plain.has_room.Tie as tie
 
@@ -16,7 +15,7 @@ left : (room from n : ℕ) → from < n → leb room (n - from) ≡ true → fro
 left room from n h e = omega (arith, leb-true room (n - from) e)
 
 returns : tie.Need-returns
-unfolding longest
+unfolding longestPlain
 returns c e = left _ _ _ (c .if1 .taken) e
 
 returns-2 : tie.Need-returns-2

@@ -1,5 +1,5 @@
--- `line_in_place::plain::plain_line` meets its contract. The invariant: the numbers read so far are a row, and each took twelve bytes at most. The
--- measure is the count of numbers that are left before the last.
+-- `line_in_place::plain::plain_line` meets its contract. The invariant: the numbers read so far are a row, and each took twelve bytes at
+-- most. The measure is the count of numbers that are left before the last.
 -- Assumes nothing.
 use mathlib.Core.Bool.{Bool, true, false, cond}
 use mathlib.Core.List.{List, [], _∷_, _++_}
@@ -14,15 +14,15 @@ use lib.ListN.{length, getD, take, set, length-set}
 use lib.Seq.{take-all, take-suc-set}
 use Rattle.bools.specs.Tests.{other-outcome}
 use Rattle.line_in_place.specs.NumberAt.{NumberAt}
-use Rattle.line_in_place.specs.Row.{PlainLine, longest, Row, row-none, row-more, row-ends}
-use Rattle.fields.specs.Fields.{width}
+use Rattle.line_in_place.specs.Plain.{PlainLine, longestPlain}
+use Rattle.line_in_place.specs.Laws.Row.{Row, row-none, row-more, row-ends}
 use Rattle.text.specs.Words.{isBlank}
 use Rattle.line_in_place.proofs.plain.plain_line.Statement.{statement}
 use Rattle.line_in_place.proofs.plain.plain_line.Tie as tie
 
 -- of n numbers and a last one, those of l before i are a row from `from` to `at`
 record Reading-on (n : ℕ) (s : List ℕ) (from : ℕ) (l : List ℕ) (at i : ℕ) : Type 0 where
-  pub space : from + longest (suc n) ≤ length s
+  pub space : from + longestPlain (suc n) ≤ length s
   pub count : i ≤ n
   pub near : at ≤ from + i * 12
   pub room : length l ≡ suc n
@@ -51,7 +51,7 @@ module _ {n : ℕ} {s : List ℕ} {from : ℕ} {l : List ℕ} {at i : ℕ} (on :
   -- the last
   module _ (end : ℕ) (e : end ≡ cond (eqb (getD s to 0) 13) (to + 1) to) where
     end-inside : end < length s
-    unfolding longest
+    unfolding longestPlain
     end-inside =
         let most : end ≤ to + 1 = rw e (at-most-one (eqb (getD s to 0) 13) to) in
         omega (arith, on .space, on .near, on .count, number .near)
@@ -74,11 +74,8 @@ Inv-loop s from fields₀ at₀ i₀ fields at i = Reading-on 25 s from fields a
 abbrev μ-loop : tie.MeasureT-loop
 μ-loop s from fields₀ at₀ i₀ fields at i = 25 - i
 
-returns : tie.Need-returns Inv-loop μ-loop
-returns c = other-outcome _ (c .not-plain .ensures)
-
-loop-holds : tie.Need-loop-holds Inv-loop μ-loop
-loop-holds c =
+none-read : tie.Need-loop-holds Inv-loop μ-loop
+none-read c =
     record {
       space = c .before .has-room .ensures (not-false _ (c .if1 .left));
       count = omega arith;
@@ -87,57 +84,39 @@ loop-holds c =
       row = row-none _ _;
     }
 
-number-at-requires : tie.Need-number-at-requires Inv-loop μ-loop
-unfolding longest
-number-at-requires c κs =
+room-for-number : tie.Need-number-at-requires Inv-loop μ-loop
+unfolding longestPlain
+room-for-number c κs =
     let on = c .before .loop .inv in
     omega (arith, on .space, on .near)
 
-returns-2 : tie.Need-returns-2 Inv-loop μ-loop
-returns-2 c = other-outcome _ (c .not-plain2 .ensures)
-
-shared-slice-read-is-blank : tie.Need-shared-slice-read-is-blank Inv-loop μ-loop
-shared-slice-read-is-blank c = c .before .before .before .number-at .ensures (not-false _ (c .before .if2 .left)) .inside
-
-returns-3 : tie.Need-returns-3 Inv-loop μ-loop
-returns-3 c = other-outcome _ (c .not-plain3 .ensures)
-
-add-at : tie.Need-add-at Inv-loop μ-loop
-add-at c =
+past-number : tie.Need-add-at Inv-loop μ-loop
+past-number c =
     let at-number = c .before .before .before .before .before in
     omega (arith, at-number .number-at .ensures (not-false _ (c .before .before .before .if2 .left)) .inside)
 
-loop-again : tie.Need-loop-again Inv-loop μ-loop
-loop-again c =
+one-more-read : tie.Need-loop-again Inv-loop μ-loop
+one-more-read c =
     let at-number = c .before .before .before .before .before in
     let number = at-number .number-at .ensures (not-false _ (c .before .before .before .if2 .left)) in
     let in-loop = at-number .before in
     let blank = sym (c .before .is-blank .ensures) ∙ not-false _ (c .if3 .left) in
     next (in-loop .before .loop .inv) number (in-loop .loop-test .taken) blank
 
-number-at-requires-2 : tie.Need-number-at-requires-2 Inv-loop μ-loop
-unfolding longest
-number-at-requires-2 c κs =
+room-for-last : tie.Need-number-at-requires-2 Inv-loop μ-loop
+unfolding longestPlain
+room-for-last c κs =
     let on = c .before .loop .inv in
     omega (arith, on .space, on .near, on .count)
 
-returns-4 : tie.Need-returns-4 Inv-loop μ-loop
-returns-4 c = other-outcome _ (c .not-plain4 .ensures)
-
-past-return-requires : tie.Need-past-return-requires Inv-loop μ-loop
-past-return-requires c κs = c .before .before .number-at2 .ensures (not-false _ (c .if4 .left)) .inside
-
-shared-slice-read-if5 : tie.Need-shared-slice-read-if5 Inv-loop μ-loop
-shared-slice-read-if5 c =
+feed-inside : tie.Need-shared-slice-read-if5 Inv-loop μ-loop
+feed-inside c =
     let at-number = c .before .before .before .before in
     let number = at-number .number-at2 .ensures (not-false _ (c .before .before .if4 .left)) in
     end-inside (at-number .before .before .loop .inv) number _ (c .before .past-return .ensures)
 
-returns-5 : tie.Need-returns-5 Inv-loop μ-loop
-returns-5 c = other-outcome _ (c .not-plain5 .ensures)
-
-returns-6 : tie.Need-returns-6 Inv-loop μ-loop
-returns-6 c found =
+all-read : tie.Need-returns-6 Inv-loop μ-loop
+all-read c found =
     let at-end = c .before .before in
     let at-number = at-end .before .before .before in
     let number = at-number .number-at2 .ensures (not-false _ (at-end .before .if4 .left)) in
@@ -152,30 +131,30 @@ plain-line-spec =
     μ-loop
     (λ c κs. tt)
     (λ c κs. tt)
-    returns
-    loop-holds
+    (λ c. other-outcome _ (c .not-plain .ensures))
+    none-read
     (λ c. omega arith)
-    number-at-requires
+    room-for-number
     (λ c κs. tt)
-    returns-2
-    shared-slice-read-is-blank
+    (λ c. other-outcome _ (c .not-plain2 .ensures))
+    (λ c. c .before .before .before .number-at .ensures (not-false _ (c .before .if2 .left)) .inside)
     (λ c κs. tt)
     (λ c κs. tt)
-    returns-3
+    (λ c. other-outcome _ (c .not-plain3 .ensures))
     (λ c. omega arith)
     (λ c. omega arith)
-    add-at
+    past-number
     (λ c. omega arith)
     (λ c. omega arith)
-    loop-again
-    number-at-requires-2
+    one-more-read
+    room-for-last
     (λ c κs. tt)
-    returns-4
-    past-return-requires
-    shared-slice-read-if5
+    (λ c. other-outcome _ (c .not-plain4 .ensures))
+    (λ c κs. c .before .before .number-at2 .ensures (not-false _ (c .if4 .left)) .inside)
+    feed-inside
     (λ c κs. tt)
-    returns-5
+    (λ c. other-outcome _ (c .not-plain5 .ensures))
     (λ c. omega arith)
     (λ c. omega arith)
     (λ c. omega arith)
-    returns-6)
+    all-read)

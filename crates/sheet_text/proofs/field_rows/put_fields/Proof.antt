@@ -1,4 +1,5 @@
--- `sheet_text::field_rows::put_fields` meets its contract. The invariant: the place is within the slice. The measure is what is left of the twenty-six.
+-- `sheet_text::field_rows::put_fields` meets its contract. The invariant: the place is within the slice. The measure is how many
+-- fields are left.
 -- Assumes nothing.
 use mathlib.Core.Path.{_≡_, refl}
 use Prim.Native.Nat.{_-_, _≤_}
@@ -13,27 +14,18 @@ Inv-loop out₀ at armour x at₀ i₀ out at' i = (length out ≡ length out₀
 abbrev μ-loop : tie.MeasureT-loop
 μ-loop out₀ at armour x at₀ i₀ out at' i = 26 - i
 
-loop-holds : tie.Need-loop-holds Inv-loop μ-loop
-loop-holds c = (refl, c .before .pre)
-
-same-length : tie.Need-same-length Inv-loop μ-loop
-same-length c = c .before .loop .inv .0
-
-returns : tie.Need-returns Inv-loop μ-loop
-returns c = c .before .loop .inv .1
-
 pub put-fields-spec : {M : Type 1} → statement M
 put-fields-spec =
     tie.close
     (tie.spec
     Inv-loop
     μ-loop
-    loop-holds
+    (λ c. (refl, c .before .pre))
     (λ c. omega arith)
     (λ c. omega arith)
     (λ c κs. omega arith)
     (λ c. omega arith)
     (λ c. omega arith)
     (λ c. omega arith)
-    same-length
-    returns)
+    (λ c. c .before .loop .inv .0)
+    (λ c. c .before .loop .inv .1))

@@ -9,7 +9,7 @@ use borrow.Author.Needs.{needs}
 use lib.Dec.{lit<}
 use lib.ListN.{length}
 use Rattle.decimals.specs.Decimal.{decimal}
-use Rattle.decimals.specs.DecimalLaws.{count-64}
+use Rattle.decimals.specs.Laws.Decimal.{count-64}
 use Rattle.splice.specs.Splice.{splice}
 use Rattle.sheet_text.proofs.Points.{fixed-none, ends, written}
 use Rattle.sheet_text.proofs.fixed.put_fixed.Statement.{statement}

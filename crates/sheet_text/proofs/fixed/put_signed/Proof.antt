@@ -1,38 +1,30 @@
 -- `sheet_text::fixed::put_signed` meets its contract: the sign, and the digits after it.
 -- Assumes nothing.
-use mathlib.Core.List.{List, [], _∷_}
-use mathlib.Core.Path.{ap, _∙_}
+use mathlib.Core.Bool.{true, false}
+use mathlib.Core.List.{[], _∷_, _++_}
+use mathlib.Core.Path.{_≡_}
 use Prim.Native.Nat.{ℕ}
 use native.Mathlib.Omega.{arith}
 use borrow.Author.Needs.{needs}
-use Rattle.splice.specs.Splice.{splice}
+use Rattle.sheet_text.specs.declared.fixed.Value.{Value}
 use Rattle.sheet_text.specs.Fixed.{fixed, signed}
-use Rattle.splice.specs.Laws.{splice-after}
+use Rattle.splice.specs.Put.{put-as, put-then}
 use Rattle.sheet_text.proofs.fixed.put_signed.Statement.{statement}
 use Rattle.sheet_text.proofs.fixed.put_signed.Tie as tie
 
--- below zero
-returns : tie.Need-returns
+with-minus : (d : ℕ) (v : Value) → v .negative ≡ true → (45 ∷ []) ++ fixed d (v .size) ≡ signed d v
 unfolding signed
-returns c =
-    let byte = c .before .before .before .before .before .before in
-    let start = byte .before .before .before .before in
-    let a = start .args in
-    let l = a .out .now in
-    let digits = fixed (a .decimals) (a .v .size) in
-    let minus = byte .put-byte .ensures in
-    let e = c .before .before .put-fixed .ensures in
-    rw (byte .before .before .if1 .taken) (
-      omega arith,
-      e .1
-          ∙ ap (λ (t : List ℕ). splice t (byte .put-byte .result) digits) (minus .1)
-          ∙ ap (λ (k : ℕ). splice (splice l (a .at) (45 ∷ [])) k digits) (minus .0)
-          ∙ splice-after l (a .at) (45 ∷ []) digits (omega arith),
-    )
+with-minus d v h = rw h
 
-returns-2 : tie.Need-returns-2
+without-minus : (d : ℕ) (v : Value) → v .negative ≡ false → fixed d (v .size) ≡ signed d v
 unfolding signed
-returns-2 c = rw (c .before .before .before .before .if1 .left) (c .before .before .put-fixed2 .ensures)
+without-minus d v h = rw h
+
+below-zero : tie.Need-returns
+below-zero c =
+    let byte = c .before .before .before .before .before .before in
+    put-as _ _ (with-minus _ _ (byte .before .before .if1 .taken))
+    (put-then _ _ (45 ∷ []) _ (omega arith) (byte .put-byte .ensures) (c .before .before .put-fixed .ensures))
 
 pub put-signed-spec : {M : Type 1} → statement M
 put-signed-spec =
@@ -41,7 +33,7 @@ put-signed-spec =
     (λ c κs. search needs)
     (λ c κs. search needs)
     (λ c. search needs)
-    returns
+    below-zero
     (λ c κs. search needs)
     (λ c. search needs)
-    returns-2)
+    (λ c. put-as _ _ (without-minus _ _ (c .before .before .before .before .if1 .left)) (c .before .before .put-fixed2 .ensures)))

@@ -1,4 +1,5 @@
--- `sheet_text::numbers::put_numbers` meets its contract. The invariant: the place is within the slice. The measure is what is left of the thirteen.
+-- `sheet_text::numbers::put_numbers` meets its contract. The invariant: the place is within the slice. The measure is how many
+-- numbers are left.
 -- Assumes nothing.
 use mathlib.Core.Path.{_≡_, refl}
 use Prim.Native.Nat.{_-_, _≤_}
@@ -13,27 +14,18 @@ Inv-loop out₀ at armour sheet at₀ i₀ out at' i = (length out ≡ length ou
 abbrev μ-loop : tie.MeasureT-loop
 μ-loop out₀ at armour sheet at₀ i₀ out at' i = 13 - i
 
-loop-holds : tie.Need-loop-holds Inv-loop μ-loop
-loop-holds c = (refl, c .before .pre)
-
-same-length : tie.Need-same-length Inv-loop μ-loop
-same-length c = c .before .loop .inv .0
-
-returns : tie.Need-returns Inv-loop μ-loop
-returns c = c .before .loop .inv .1
-
 pub put-numbers-spec : {M : Type 1} → statement M
 put-numbers-spec =
     tie.close
     (tie.spec
     Inv-loop
     μ-loop
-    loop-holds
+    (λ c. (refl, c .before .pre))
     (λ c. omega arith)
     (λ c. omega arith)
     (λ c κs. omega arith)
     (λ c. omega arith)
     (λ c. omega arith)
     (λ c. omega arith)
-    same-length
-    returns)
+    (λ c. c .before .loop .inv .0)
+    (λ c. c .before .loop .inv .1))

@@ -5,7 +5,7 @@ use native.Mathlib.Nat.{le-refl}
 use native.Mathlib.Omega.{arith}
 use lib.ListN.{length}
 use Rattle.text.specs.Gather.{isInLine}
-use Rattle.text.specs.Runs.{run-within}
+use Rattle.text.specs.Laws.Runs.{run-within}
 use Rattle.sheet_text.proofs.rows.row_start.Statement.{statement}
 use Rattle.sheet_text.proofs.rows.row_start.Tie as tie
 

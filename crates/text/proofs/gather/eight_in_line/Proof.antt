@@ -7,17 +7,17 @@ use Prim.Native.Nat.{ℕ, _+_, _<_}
 use native.Mathlib.Nat.{add-assoc}
 use native.Mathlib.Omega.{arith}
 use borrow.Author.Needs.{needs}
-use lib.ListN.{length, getD, drop}
+use lib.ListN.{length, getD}
 use Rattle.text.specs.Gather.{isInLine}
 use Rattle.bools.specs.Tests.{both}
-use Rattle.text.specs.Runs.{run-more}
-use Rattle.text.specs.Words.{run}
+use Rattle.text.specs.Laws.Runs.{run-more}
+use Rattle.text.specs.Words.{runEnd}
 use Rattle.text.proofs.gather.eight_in_line.Statement.{statement}
 use Rattle.text.proofs.gather.eight_in_line.Tie as tie
 
 -- the run from i on goes past the next n bytes
 Past : List ℕ → ℕ → ℕ → Type 0
-Past s i n = i + run isInLine (drop i s) ≡ i + n + run isInLine (drop (i + n) s)
+Past s i n = runEnd isInLine s i ≡ runEnd isInLine s (i + n)
 
 -- and past one more, where the tests of n bytes and that of the next all hold
 and-one : (s : List ℕ) (i n : ℕ) (tests : Bool) → i + n < length s → (tests ≡ true → Past s i n)
@@ -27,7 +27,7 @@ and-one s i n tests h past e =
     let t = both tests (isInLine (getD s (i + n) 0)) e in
     past (t .0)
     ∙ run-more isInLine s (i + n) h (t .1)
-    ∙ ap (λ (k : ℕ). k + run isInLine (drop k s)) (add-assoc i n 1)
+    ∙ ap (runEnd isInLine s) (add-assoc i n 1)
 
 returns : tie.Need-returns
 unfolding Past isInLine

@@ -2,7 +2,6 @@
 -- Assumes nothing.
 use mathlib.Core.Path.{refl}
 use Rattle.text.specs.Answer.{noCase}
-use Rattle.fields.specs.Fields.{width}
 use Rattle.text.proofs.line.no_case.Statement.{statement}
 use Rattle.text.proofs.line.no_case.Tie as tie
 

@@ -11,14 +11,14 @@ use lib.ListN.{length, take, drop, set, length-set}
 use lib.Seq.{take-all, take-suc-set}
 use Rattle.text.specs.declared.number.Reading.{Reading}
 use Rattle.text.specs.declared.number.Reading.the-variants.{Number, Nothing}
-use Rattle.text.specs.After.{after, after-one, after-unreadable, after-none}
+use Rattle.text.specs.Laws.After.{after, after-one, after-unreadable, after-none}
 use Rattle.text.specs.Answer.{answer}
 use Rattle.text.specs.Gather.{piece}
 use Rattle.text.specs.Line.{aCase, unreadable, field, fields}
 use Rattle.fields.specs.Fields.{width}
 use Rattle.text.specs.Number.{readNumber}
-use Rattle.text.specs.Runs.{run-within}
-use Rattle.text.specs.Words.{run, isBlank, isInk}
+use Rattle.text.specs.Laws.Runs.{run-within}
+use Rattle.text.specs.Words.{isBlank, isInk, runEnd}
 use Rattle.text.proofs.Fields.{turn, ends, goes-on}
 use Rattle.text.proofs.line.read_fields.Statement.{statement}
 use Rattle.text.proofs.line.read_fields.Tie as tie
@@ -38,7 +38,7 @@ abbrev μ-loop : tie.MeasureT-loop
 
 -- what the words from `at` on say, where one is read as r
 module _ {n : ℕ} {s l : List ℕ} {at i : ℕ} (on : Reading-on n s l at i) (more : i < n) (from to : ℕ) (r : Reading)
-    (blanks : from ≡ at + run isBlank (drop at s)) (ink : to ≡ from + run isInk (drop from s))
+    (blanks : from ≡ runEnd isBlank s at) (ink : to ≡ runEnd isInk s from)
     (read : r ≡ readNumber (take (to - from) (drop from s))) where
   one : fields n s ≡ after (take i l) (field r (fields (n - (i + 1)) (drop to s)))
   one =
@@ -71,7 +71,7 @@ module _ {n : ℕ} {s l : List ℕ} {at i : ℕ} (on : Reading-on n s l at i) (m
 
 -- all numbers are read
 module _ {n : ℕ} {s l : List ℕ} {at i : ℕ} (on : Reading-on n s l at i) (all : n ≤ i) (from : ℕ)
-    (blanks : from ≡ at + run isBlank (drop at s)) where
+    (blanks : from ≡ runEnd isBlank s at) where
   last : fields n s ≡ after (take i l) (fields 0 (drop at s))
   last = on .same ∙ ap (λ (k : ℕ). after (take i l) (fields k (drop at s))) (omega arith)
 

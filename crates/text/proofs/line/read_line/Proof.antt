@@ -11,13 +11,13 @@ use lib.Dec.{eqb}
 use lib.ListN.{length, getD, take}
 use lib.Seq.{length-take-le}
 use Rattle.text.specs.Answer.{answer}
-use Rattle.text.specs.GatherLaws.{too-long}
-use Rattle.text.specs.Line.{says, textLength, readLineOf, readLine}
+use Rattle.text.specs.Laws.Gather.{too-long}
+use Rattle.text.specs.Line.{says, textLength, longestLine, readLineOf, readLine}
 use Rattle.fields.specs.Fields.{width}
 use Rattle.text.proofs.line.read_line.Statement.{statement}
 use Rattle.text.proofs.line.read_line.Tie as tie
 
-taken : (n : ℕ) (l : List ℕ) (k : ℕ) → length l ≤ 1023 → k ≡ textLength l → says n (take k l) ≡ readLineOf n l
+taken : (n : ℕ) (l : List ℕ) (k : ℕ) → length l ≤ longestLine → k ≡ textLength l → says n (take k l) ≡ readLineOf n l
 unfolding readLineOf
 taken n l k h e = simp (le-ltb _ _ h) (ap (λ (m : ℕ). says n (take m l)) e)
 

@@ -1,35 +1,36 @@
 -- `text::line::read_word` meets its contract: at most ten digits after which no word goes on are the word, and any other word is
 -- read from its start to its end.
 -- Assumes nothing.
-use mathlib.Core.Path.{sym, _∙_}
+use mathlib.Core.Path.{sym}
 use native.Mathlib.Omega.{arith}
 use borrow.Author.Needs.{needs}
 use Rattle.text.specs.Gather.{piece}
-use Rattle.text.specs.Leading.{number-test, word-ends, word-says}
-use Rattle.text.specs.Runs.{run-within}
+use Rattle.text.specs.Laws.Leading.{number-in, word-ends, word-says}
+use Rattle.text.specs.Laws.Runs.{run-within}
 use Rattle.text.specs.Words.{isInk}
 use Rattle.text.proofs.line.read_word.Statement.{statement}
 use Rattle.text.proofs.line.read_word.Tie as tie
 
-cast-t12 : tie.Need-cast-t12
-cast-t12 c =
-    let at-test = c .before .before .before in
-    omega (arith, number-test _ _ _ _ (sym (at-test .before .is-number .ensures) ∙ at-test .if2 .taken) .1)
+fits : tie.Need-cast-t12
+fits c =
+    let tested = c .before .before .before in
+    let leading = tested .before .before .leading-digits .ensures in
+    omega (arith, number-in _ leading (tested .before .is-number .ensures) (tested .if2 .taken) .fits)
 
-returns : tie.Need-returns
-returns c =
+digits-alone : tie.Need-returns
+digits-alone c =
+    let tested = c .before .before .before in
+    let leading = tested .before .before .leading-digits .ensures in
+    let number = number-in _ leading (tested .before .is-number .ensures) (tested .if2 .taken) in
     let past = c .before .before .is-past-word .ensures (c .before .if3 .taken) in
-    let at-test = c .before .before .before in
-    let number = number-test _ _ _ _ (sym (at-test .before .is-number .ensures) ∙ at-test .if2 .taken) in
-    let digits = at-test .before .before .leading-digits .ensures .1 in
-    (word-ends _ _ _ _ digits past, sym (word-says _ _ _ _ digits (number .0) (number .1)))
+    (word-ends _ _ _ _ (number .digits) past, sym (word-says number))
 
-part-read-number-end : tie.Need-part-read-number-end
-part-read-number-end c = rw (c .skip-word .ensures) (run-within isInk _ _ (c .before .before .before .pre))
+end-inside : tie.Need-part-read-number-end
+end-inside c = rw (c .skip-word .ensures) (run-within isInk _ _ (c .before .before .before .pre))
 
-returns-2 : tie.Need-returns-2
+any-word : tie.Need-returns-2
 unfolding piece
-returns-2 c = (c .before .before .skip-word .ensures, c .read-number .ensures)
+any-word c = (c .before .before .skip-word .ensures, c .read-number .ensures)
 
 pub read-word-spec : {M : Type 1} → statement M
 read-word-spec =
@@ -39,11 +40,11 @@ read-word-spec =
     (λ c κs. search needs)
     (λ c κs. search needs)
     (λ c κs. search needs)
-    cast-t12
-    returns
+    fits
+    digits-alone
     (λ c κs. search needs)
     (λ c. search needs)
     (λ c. search needs)
-    part-read-number-end
+    end-inside
     (λ c κs. search needs)
-    returns-2)
+    any-word)

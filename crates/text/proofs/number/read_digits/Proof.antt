@@ -16,24 +16,15 @@ Inv-loop w limit x₀ i₀ x i = (x ≤ limit) × (readDigits limit w ≡ onward
 abbrev μ-loop : tie.MeasureT-loop
 μ-loop w limit x₀ i₀ x i = length w - i
 
-returns : tie.Need-returns Inv-loop μ-loop
-returns c = empty _ _ (c .if1 .taken)
+below-digits : tie.Need-returns-2 Inv-loop μ-loop
+below-digits c =
+    let at-turn = c .before .before in
+    sym (at-turn .before .loop .inv .1 ∙ onward-low _ _ _ _ (at-turn .loop-test .taken) (c .if2 .taken))
 
-loop-holds : tie.Need-loop-holds Inv-loop μ-loop
-loop-holds c = (zero-le, begin _ _ (c .if1 .left))
-
-shared-slice-read-b : tie.Need-shared-slice-read-b Inv-loop μ-loop
-shared-slice-read-b c = c .before .loop-test .taken
-
-returns-2 : tie.Need-returns-2 Inv-loop μ-loop
-returns-2 c =
-    let at-loop = c .before .before .before in
-    sym (at-loop .loop .inv .1 ∙ onward-low _ _ _ _ (c .before .before .loop-test .taken) (c .if2 .taken))
-
-returns-3 : tie.Need-returns-3 Inv-loop μ-loop
-returns-3 c =
-    let at-loop = c .before .before .before .before in
-    sym (at-loop .loop .inv .1 ∙ onward-high _ _ _ _ (c .before .before .before .loop-test .taken) (omega arith))
+above-digits : tie.Need-returns-3 Inv-loop μ-loop
+above-digits c =
+    let at-turn = c .before .before .before in
+    sym (at-turn .before .loop .inv .1 ∙ onward-high _ _ _ _ (at-turn .loop-test .taken) (omega arith))
 
 -- a digit was read
 turn : (c : tie.Else3 Inv-loop μ-loop)
@@ -46,14 +37,10 @@ turn c =
     let at-turn = c .before .before .before in
     at-turn .before .loop .inv .1 ∙ onward-digit _ _ _ _ (at-turn .loop-test .taken) (c .before .if2 .left) (c .if3 .left)
 
-returns-4 : tie.Need-returns-4 Inv-loop μ-loop
-returns-4 c = sym (turn (c .before) ∙ onward-over _ _ _ (c .if4 .taken))
-
-loop-again : tie.Need-loop-again Inv-loop μ-loop
-loop-again c = (c .if4 .left, turn (c .before))
-
-returns-5 : tie.Need-returns-5 Inv-loop μ-loop
-returns-5 c = sym (c .before .loop .inv .1 ∙ onward-end _ _ _ _ (c .loop-test .left) (c .before .loop .inv .0))
+all-read : tie.Need-returns-5 Inv-loop μ-loop
+all-read c =
+    let at-loop = c .before .loop in
+    sym (at-loop .inv .1 ∙ onward-end _ _ _ _ (c .loop-test .left) (at-loop .inv .0))
 
 pub read-digits-spec : {M : Type 1} → statement M
 read-digits-spec =
@@ -61,18 +48,18 @@ read-digits-spec =
     (tie.spec
     Inv-loop
     μ-loop
-    returns
-    loop-holds
-    shared-slice-read-b
-    returns-2
-    returns-3
+    (λ c. empty _ _ (c .if1 .taken))
+    (λ c. (zero-le, begin _ _ (c .if1 .left)))
+    (λ c. c .before .loop-test .taken)
+    below-digits
+    above-digits
     (λ c. omega arith)
     (λ c. omega arith)
     (λ c. omega arith)
     (λ c. omega arith)
-    returns-4
+    (λ c. sym (turn (c .before) ∙ onward-over _ _ _ (c .if4 .taken)))
     (λ c. omega arith)
     (λ c. omega arith)
     (λ c. omega arith)
-    loop-again
-    returns-5)
+    (λ c. (c .if4 .left, turn (c .before)))
+    all-read)

@@ -24,27 +24,22 @@ empty [] e = digits.empty 4294967295 [] e ∙ plain [] (λ h. omega arith)
 empty (b ∷ w) e = absurd (omega arith)
 
 -- r is what the word without its first byte says
-minus : (w : List ℕ) (r : Reading) → getD w 0 0 ≡ 45 → r ≡ readDigits 2147483648 (take (length w - 1) (drop 1 w)) → negated r ≡ readNumber w
+minus : (w : List ℕ) (r : Reading) → getD w 0 0 ≡ 45 → r ≡ readDigits 2147483648 (take (length w - 1) (drop 1 w))
+    → negated r ≡ readNumber w
 unfolding readNumber
 minus w r h e =
     let rest : take (length w - 1) (drop 1 w) ≡ drop 1 w = take-all (length w - 1) (drop 1 w) (rw length-drop (omega arith)) in
     simp (eq-eqb _ _ h) (ap negated (e ∙ ap (readDigits 2147483648) rest))
 
-returns : tie.Need-returns
-returns c = empty _ (c .if1 .taken)
-
-returns-2 : tie.Need-returns-2
-returns-2 c = c .read-digits .ensures ∙ plain _ (c .before .if2 .taken)
-
-returns-3 : tie.Need-returns-3
+below-zero : tie.Need-returns-3
 unfolding negated
-returns-3 c =
+below-zero c =
     let at-call = c .before .before .before in
     ap negated (sym (c .before .x .given .1)) ∙ minus _ _ (at-call .before .before .if2 .left) (at-call .read-digits2 .ensures)
 
-returns-4 : tie.Need-returns-4
+no-digits : tie.Need-returns-4
 unfolding negated
-returns-4 c =
+no-digits c =
     let at-call = c .before .before in
     ap negated (sym (c .enum-told .given .1)) ∙ minus _ _ (at-call .before .before .if2 .left) (at-call .read-digits2 .ensures)
 
@@ -52,10 +47,10 @@ pub read-number-spec : {M : Type 1} → statement M
 read-number-spec =
     tie.close
     (tie.spec
-    returns
+    (λ c. empty _ (c .if1 .taken))
     (λ c. search needs)
     (λ c κs. tt)
-    returns-2
+    (λ c. c .read-digits .ensures ∙ plain _ (c .before .if2 .taken))
     (λ c. search needs)
     (λ c. search needs)
     (λ c. search needs)
@@ -65,5 +60,5 @@ read-number-spec =
     (λ c. search needs)
     (λ c. search needs)
     (λ c. search needs)
-    returns-3
-    returns-4)
+    below-zero
+    no-digits)

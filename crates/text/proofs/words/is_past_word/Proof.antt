@@ -4,7 +4,7 @@ use mathlib.Core.Bool.{not}
 use mathlib.Core.Path.{sym, ap, _∙_}
 use native.Mathlib.Omega.{arith}
 use borrow.Author.Needs.{needs}
-use Rattle.text.specs.Runs.{run-stop, run-end}
+use Rattle.text.specs.Laws.Runs.{run-stop, run-end}
 use Rattle.text.specs.Words.{isInk}
 use Rattle.text.proofs.words.is_past_word.Statement.{statement}
 use Rattle.text.proofs.words.is_past_word.Tie as tie

@@ -1,23 +1,23 @@
--- `serve` keeps its positions within the three buffers. The invariant: they are, `out` has room for a line, and no buffer changes its
--- length; the number of lines that are left falls.
+-- `rate_lines` keeps its positions within the three buffers. The invariant: reading does, and `out` has room for a line. The measure is
+-- the count of lines that may still come.
 use borrow.Author.Needs.{needs}
-use Prim.Native.Nat.{_+_, _-_, _≤_}
+use Prim.Native.Nat.{_+_, _≤_}
 use mathlib.Core.Path.{_≡_}
 use lib.ListN.{length}
-use Rattle.input.specs.State.{Ready}
-use Rattle.rate.proofs.serve.Statement.{statement}
-use Rattle.rate.proofs.serve.Tie as tie
+use Rattle.input.specs.State.{BuffersKept, linesLeft}
+use Rattle.rate_text.specs.Answers.{answerRoom}
+use Rattle.rate.proofs.rate_lines.Statement.{statement}
+use Rattle.rate.proofs.rate_lines.Tie as tie
 
 abbrev Inv-loop : tie.InvT-loop
 Inv-loop chunk₀ line₀ out₀ from₀ used₀ number₀ chunk line out from used number =
-    Ready from (length chunk) × (used + 512 ≤ length out)
-    × (length chunk ≡ length chunk₀) × (length line ≡ length line₀) × (length out ≡ length out₀)
+    BuffersKept from chunk₀ line₀ chunk line × (used + answerRoom ≤ length out) × (length out ≡ length out₀)
 
 abbrev μ-loop : tie.MeasureT-loop
-μ-loop chunk₀ line₀ out₀ from₀ used₀ number₀ chunk line out from used number = 18446744073709551615 - number
+μ-loop chunk₀ line₀ out₀ from₀ used₀ number₀ chunk line out from used number = linesLeft number
 
-pub serve-spec : {M : Type 1} → statement M
-serve-spec =
+pub rate-lines-spec : {M : Type 1} → statement M
+rate-lines-spec =
     tie.close
     (tie.spec
     Inv-loop

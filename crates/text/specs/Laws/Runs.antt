@@ -8,7 +8,7 @@ use native.Mathlib.Numerals.{add-one}
 use native.Mathlib.Omega.{arith}
 use lib.ListN.{length, getD, drop, drop-of-length-le, length-drop}
 use lib.Seq.{drop-cons}
-use Rattle.text.specs.Words.{run, isEmpty}
+use Rattle.text.specs.Words.{run, isEmpty, runEnd}
 
 -- the run from i on, by whether the byte at i passes
 first : (p : ℕ → Bool) (s : List ℕ) (i : ℕ) (t : Bool) → i < length s → p (getD s i 0) ≡ t
@@ -18,16 +18,16 @@ first p s i t h e =
     ap (run p) (drop-cons s i 0 h) ∙ ap (λ (u : Bool). cond u (suc (run p (drop (suc i) s))) 0) e
 
 pub run-more : (p : ℕ → Bool) (s : List ℕ) (i : ℕ) → i < length s → p (getD s i 0) ≡ true
-    → i + run p (drop i s) ≡ i + 1 + run p (drop (i + 1) s)
+    → runEnd p s i ≡ runEnd p s (i + 1)
 run-more p s i h e =
     rw (add-one i)
     (let f : run p (drop i s) ≡ suc (run p (drop (suc i) s)) = first p s i true h e in omega arith)
 
 pub run-stop : (p : ℕ → Bool) (s : List ℕ) (i : ℕ) → i < length s → p (getD s i 0) ≡ false
-    → i + run p (drop i s) ≡ i
+    → runEnd p s i ≡ i
 run-stop p s i h e = let f : run p (drop i s) ≡ 0 = first p s i false h e in omega arith
 
-pub run-end : (p : ℕ → Bool) (s : List ℕ) (i : ℕ) → length s ≤ i → i + run p (drop i s) ≡ i
+pub run-end : (p : ℕ → Bool) (s : List ℕ) (i : ℕ) → length s ≤ i → runEnd p s i ≡ i
 unfolding run
 run-end p s i h = ap (λ (l : List ℕ). i + run p l) (drop-of-length-le s h) ∙ add-zero i
 
@@ -40,7 +40,7 @@ unfolding run
 run-length p [] = zero-le
 run-length p (b ∷ s) = one-more (p b) (run-length p s)
 
-pub run-within : (p : ℕ → Bool) (s : List ℕ) (i : ℕ) → i ≤ length s → i + run p (drop i s) ≤ length s
+pub run-within : (p : ℕ → Bool) (s : List ℕ) (i : ℕ) → i ≤ length s → runEnd p s i ≤ length s
 run-within p s i h = omega (arith, run-length p (drop i s), length-drop i s)
 
 -- whether something is left past i

@@ -1,4 +1,5 @@
--- Laws of reading digits: which bytes are digits, what `every` says of each byte, and that a number in decimal is read back as itself. Assumes nothing.
+-- Laws of reading digits: which bytes are digits, what `every` says of each byte, and that a number in decimal is read back as itself.
+-- Assumes nothing.
 use mathlib.Core.Bool.{Bool, true, false, false≢true, and-false}
 use mathlib.Core.List.{List, [], _∷_, _++_}
 use mathlib.Core.Path.{_≡_, refl, sym, ap, _∙_}
@@ -10,7 +11,7 @@ use lib.ListN.{length, getD}
 use Rattle.bools.specs.Tests.{both}
 use Rattle.text.specs.declared.number.Reading.the-variants.{Number}
 use Rattle.decimals.specs.Decimal.{decimal}
-use Rattle.decimals.specs.DecimalLaws.{decimal-small, decimal-large, decimal-ind, count-positive}
+use Rattle.decimals.specs.Laws.Decimal.{decimal-small, decimal-large, decimal-ind, count-positive}
 use Rattle.text.specs.Number.{isDigit, every, valueFrom, value, readDigits, readNumber}
 use Rattle.text.specs.Words.{isEmpty}
 

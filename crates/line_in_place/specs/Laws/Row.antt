@@ -3,34 +3,24 @@
 use mathlib.Core.Bool.{Bool, true, false, cond}
 use mathlib.Core.List.{List, [], _∷_, _++_, append-assoc, append-nil}
 use mathlib.Core.Path.{_≡_, refl, sym, ap, _∙_}
-use Prim.Native.Nat.{ℕ, suc, _+_, _-_, _*_, _≤_, _<_}
+use Prim.Native.Nat.{ℕ, suc, _+_, _-_, _≤_, _<_}
 use native.Mathlib.Nat.{le-refl, zero-add}
 use native.Mathlib.Omega.{arith}
 use borrow.Author.Tests.{eqb-true, ne-eqb}
 use lib.Dec.{eqb}
 use lib.ListN.{length, getD}
 use Rattle.line_in_place.specs.NumberAt.{NumberAt}
-use Rattle.line_in_place.specs.Standing.{lineEnd}
-use Rattle.line_in_place.specs.StandingLaws.{line-ends}
-use Rattle.text.specs.After.{after, after-one, after-none}
+use Rattle.line_in_place.specs.Plain.{PlainLine}
+use Rattle.line_in_place.specs.Laws.Standing.{line-ends}
+use Rattle.text.specs.Laws.After.{after, after-one, after-none}
 use Rattle.text.specs.declared.number.Reading.{Reading}
 use Rattle.text.specs.Gather.{isInLine, piece}
-use Rattle.text.specs.Line.{aCase, field, fields, readLineOf}
-use Rattle.text.specs.Number.{isDigit, every}
-use Rattle.text.specs.NumberLaws.{every-append, every-weaker, differ}
-use Rattle.text.specs.Pieces.{piece-none, piece-more, piece-join, piece-length}
-use Rattle.text.specs.WordLaws.{one-field, blank-first, isNumeral, isPlain, numeral-ink, numeral-plain, blank-plain, plain-case, plain-case-return}
+use Rattle.text.specs.Line.{aCase, field, fields, longestLine, readLineOf}
+use Rattle.text.specs.Number.{isDigit, every, isNumeral}
+use Rattle.text.specs.Laws.Number.{every-append, every-weaker, differ}
+use Rattle.text.specs.Laws.Pieces.{piece-none, piece-more, piece-join, piece-length}
+use Rattle.text.specs.Laws.Words.{one-field, blank-first, isPlain, numeral-ink, numeral-plain, blank-plain, plain-case, plain-case-return}
 use Rattle.text.specs.Words.{isBlank, isInk, isEmpty, dropBlanks, run}
-
--- a line that ends at `to` and says a case of n numbers, xs
-pub record PlainLine (n : ℕ) (s : List ℕ) (from to : ℕ) (xs : List ℕ) : Type 0 where
-  pub inside : to < length s
-  pub end : to ≡ lineEnd s from
-  pub says : readLineOf n (piece from to s) ≡ aCase xs
-
--- the most bytes that n numbers take in such a line: for each eleven and one after it, and a carriage return
-unfoldable pub longest : ℕ → ℕ
-longest n = n * 12 + 1
 
 -- i numbers xs from `from` to `at`, with one blank after each: whatever follows, they are read in front of it
 pub record Row (s : List ℕ) (from at i : ℕ) (xs : List ℕ) : Type 0 where
@@ -44,7 +34,8 @@ row-none s from =
     record {
       forward = le-refl from;
       plain = ap (every isPlain) (piece-none s from);
-      read = λ k t. ap (λ (n : ℕ). fields n (piece from from s ++ t)) (zero-add k) ∙ ap (λ (p : List ℕ). fields k (p ++ t)) (piece-none s from);
+      read = λ k t.
+          ap (λ (n : ℕ). fields n (piece from from s ++ t)) (zero-add k) ∙ ap (λ (p : List ℕ). fields k (p ++ t)) (piece-none s from);
     }
 
 -- a byte that passes a test after bytes that do
@@ -134,7 +125,7 @@ module _ {s : List ℕ} {from at i : ℕ} {xs : List ℕ} (row : Row s from at i
   line-in-line = every-weaker isPlain isInLine plain-in-line line line-plain
 
   -- a line feed after it, or a carriage return and a line feed: the row is a line
-  module _ (short : to ≤ from + 1022) (end : ℕ) (inside : end < length s) (feed : getD s end 0 ≡ 10) where
+  module _ (short : to < from + longestLine) (end : ℕ) (inside : end < length s) (feed : getD s end 0 ≡ 10) where
     size : length line ≡ to - from
     unfolding line
     size = piece-length s from to (omega (arith, next .inside))

@@ -11,7 +11,7 @@ use native.Mathlib.Omega.{arith}
 use borrow.Author.Tests.{lt-ltb, le-ltb, ltb-true, ltb-false}
 use lib.Dec.{ltb, lit<}
 use lib.ListN.{length, length-append}
-use Rattle.decimals.specs.Decimal.{digits, decimal, spaced}
+use Rattle.decimals.specs.Decimal.{digits, decimal, padded, spaced}
 
 -- below ten or not
 small? : (x : ℕ) → (x < 10) ⊎ (10 ≤ x)
@@ -82,11 +82,6 @@ count-below (suc k) x h =
 
 pub count-64 : (x : ℕ) → x < 2 ^ 64 → length (decimal x) ≤ 20
 count-64 x h = count-below 19 x (lt-trans h (lit< tt))
-
--- the last n digits of x, with zeros in front where x has fewer
-unfoldable pub padded : ℕ → ℕ → List ℕ
-padded zero x = []
-padded (suc n) x = padded n (x / 10) ++ ((x % 10 + 48) ∷ [])
 
 pub decimal-padded : (x : ℕ) → decimal x ≡ padded (length (decimal x)) x
 unfolding padded

@@ -1,40 +1,35 @@
--- A line that is gathered piece by piece in a room of fixed size: what is kept is the start of the whole line, and 1024 bytes of it are
--- enough to read it. Assumes nothing.
+-- A line that is gathered piece by piece in a room of fixed size: what is kept is the start of the whole line, and as much of it as
+-- fills the room is enough to read it. Assumes nothing.
 use mathlib.Core.Bool.{Bool, true, false}
 use mathlib.Core.List.{List, [], _∷_, _++_}
 use mathlib.Core.Path.{_≡_, refl, sym, ap, _∙_}
-use Prim.Native.Nat.{ℕ, zero, suc, _+_, _-_, _≤_, _<_, min}
+use Prim.Native.Nat.{ℕ, zero, suc, _+_, _-_, _≤_, _<_}
 use native.Mathlib.Nat.{zero-sub, sub-zero, suc-sub-suc}
 use native.Mathlib.Omega.{arith}
 use borrow.Author.Tests.{lt-ltb, ltb-true, ltb-false}
 use lib.Dec.{ltb}
 use lib.ListN.{length, take, drop, length-take, length-append}
 use lib.Seq.{take-all, take-at, take-nil, length-take-le}
-use Rattle.text.specs.Gather.{piece, kept}
-use Rattle.text.specs.Line.{unreadable, readLineOf}
+use Rattle.text.specs.Gather.{piece, lineRoom, kept, Holds}
+use Rattle.text.specs.Line.{unreadable, longestLine, readLineOf}
 use Rattle.splice.specs.Splice.{splice}
 
--- ---- 1024 bytes decide what a line says
+-- ---- the start of a line that fills the room decides what the line says
 
-pub too-long : (n : ℕ) (l : List ℕ) → 1023 < length l → readLineOf n l ≡ unreadable
+pub too-long : (n : ℕ) (l : List ℕ) → longestLine < length l → readLineOf n l ≡ unreadable
 unfolding readLineOf
 too-long n l h = simp (lt-ltb _ _ h)
 
-pub start-decides : (n : ℕ) (l : List ℕ) → readLineOf n (take 1024 l) ≡ readLineOf n l
-start-decides n l = go (ltb 1023 (length l)) refl
+pub start-decides : (n : ℕ) (l : List ℕ) → readLineOf n (take lineRoom l) ≡ readLineOf n l
+start-decides n l = go (ltb longestLine (length l)) refl
   where
-    go : (t : Bool) → ltb 1023 (length l) ≡ t → readLineOf n (take 1024 l) ≡ readLineOf n l
+    go : (t : Bool) → ltb longestLine (length l) ≡ t → readLineOf n (take lineRoom l) ≡ readLineOf n l
     go true e =
-        let long = ltb-true 1023 (length l) e in
-        too-long n (take 1024 l) (omega (arith, length-take 1024 l)) ∙ sym (too-long n l long)
-    go false e = ap (readLineOf n) (take-all 1024 l (omega (arith, ltb-false 1023 (length l) e)))
+        let long = ltb-true longestLine (length l) e in
+        too-long n (take lineRoom l) (omega (arith, length-take lineRoom l)) ∙ sym (too-long n l long)
+    go false e = ap (readLineOf n) (take-all lineRoom l (omega (arith, ltb-false longestLine (length l) e)))
 
 -- ---- what is kept is the start of the line
-
--- the first len elements of l are as much of the line as a room of n bytes holds
-pub record Holds (n : ℕ) (l line : List ℕ) (len : ℕ) : Type 0 where
-  pub size : len ≡ min n (length line)
-  pub bytes : take len l ≡ take n line
 
 take-append : (n : ℕ) (a b : List ℕ) → take n (a ++ b) ≡ take n a ++ take (n - length a) b
 take-append n [] b = sym (ap (λ (t : List ℕ). t ++ take (n - 0) b) (take-nil n) ∙ ap (λ (k : ℕ). take k b) (sub-zero n))
@@ -60,7 +55,8 @@ module _ (n : ℕ) (l line : List ℕ) (len from to : ℕ) (chunk : List ℕ) (r
       let fits : len ≤ length l = let e = h .size in omega arith in
       length-append (take len l) more ∙ ap (λ (k : ℕ). k + length more) (length-take-le len l fits)
 
-  pub holds-more : Holds n (splice l len (kept (n - len) from to chunk)) (line ++ piece from to chunk) (len + length (kept (n - len) from to chunk))
+  pub holds-more : Holds n (splice l len (kept (n - len) from to chunk)) (line ++ piece from to chunk)
+      (len + length (kept (n - len) from to chunk))
   unfolding more splice
   holds-more =
       record {

@@ -10,9 +10,9 @@ use lib.Dec.{eqb}
 use lib.ListN.{length, getD, length-append}
 use lib.Seq.{take-append-seam, drop-append-seam, getD-append-seam, take-length}
 use Rattle.bools.specs.Tests.{both}
-use Rattle.text.specs.Line.{Said, passedOver, aCase, unreadable, field, fields, says, textLength, readLineOf}
-use Rattle.text.specs.Number.{isDigit, every, readDigits, readNumber}
-use Rattle.text.specs.NumberLaws.{every-at, differ}
+use Rattle.text.specs.Line.{Said, passedOver, aCase, unreadable, field, fields, says, textLength, longestLine, readLineOf}
+use Rattle.text.specs.Number.{isDigit, isNumeral, every, readDigits, readNumber}
+use Rattle.text.specs.Laws.Number.{every-at, differ}
 use Rattle.text.specs.Words.{isBlank, isInk, run, isEmpty, dropBlanks, word, dropWord}
 
 pub run-past : (p : ℕ → Bool) (s t : List ℕ) → every p s ≡ true → run p t ≡ 0 → run p (s ++ t) ≡ length s
@@ -54,11 +54,7 @@ blank-first (suc n) b s h = rw h
 
 -- ---- the bytes of numbers and blanks
 
--- digits and the minus sign
-unfoldable pub isNumeral : ℕ → Bool
-isNumeral b = isDigit b || eqb b 45
-
--- these, blanks and tabs
+-- digits, the minus sign, blanks and tabs
 unfoldable pub isPlain : ℕ → Bool
 isPlain b = isNumeral b || isBlank b
 
@@ -116,14 +112,14 @@ module _ (line : List ℕ) (some : 0 < length line) (plain : every isPlain line 
     unfolding says isPlain isNumeral isDigit isBlank
     plain-says = rw (some-word n line xs e, none 35 0 some refl) e
 
-    pub plain-case : length line ≤ 1023 → readLineOf (suc n) line ≡ aCase xs
+    pub plain-case : length line ≤ longestLine → readLineOf (suc n) line ≡ aCase xs
     unfolding readLineOf textLength isPlain isNumeral isDigit isBlank
-    plain-case fits = rw (le-ltb 1023 (length line) fits, none 13 (length line - 1) (omega arith) refl, take-length line) plain-says
+    plain-case fits = rw (le-ltb longestLine (length line) fits, none 13 (length line - 1) (omega arith) refl, take-length line) plain-says
 
-    pub plain-case-return : length line ≤ 1022 → readLineOf (suc n) (line ++ (13 ∷ [])) ≡ aCase xs
+    pub plain-case-return : length line < longestLine → readLineOf (suc n) (line ++ (13 ∷ [])) ≡ aCase xs
     unfolding readLineOf textLength
     plain-case-return fits =
         let longer : length (line ++ (13 ∷ [])) ≡ length line + 1 = length-append line (13 ∷ []) in
         let last : length (line ++ (13 ∷ [])) - 1 ≡ length line = omega arith in
-        let short : length (line ++ (13 ∷ [])) ≤ 1023 = omega arith in
-        rw (le-ltb 1023 (length (line ++ (13 ∷ []))) short, last, getD-append-seam line 13 [] 0, take-append-seam line (13 ∷ [])) plain-says
+        let short = le-ltb longestLine (length (line ++ (13 ∷ []))) (omega arith) in
+        rw (short, last, getD-append-seam line 13 [] 0, take-append-seam line (13 ∷ [])) plain-says

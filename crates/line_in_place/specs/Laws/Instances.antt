@@ -6,10 +6,12 @@ use mathlib.Core.Path.{_≡_, refl, sym, ap}
 use Prim.Native.Nat.{ℕ, _<_}
 use lib.Dec.{lit<, lit≤}
 use Rattle.line_in_place.specs.declared.Line.{Line}
-use Rattle.line_in_place.specs.NumberAt.{NumberAt, without-sign, with-sign}
-use Rattle.line_in_place.specs.Row.{PlainLine, Row, row-none, row-more, row-ends}
+use Rattle.line_in_place.specs.NumberAt.{NumberAt}
+use Rattle.line_in_place.specs.Laws.NumberAt.{without-sign, with-sign}
+use Rattle.line_in_place.specs.Plain.{PlainLine}
+use Rattle.line_in_place.specs.Laws.Row.{Row, row-none, row-more, row-ends}
 use Rattle.line_in_place.specs.Standing.{lineEnd, lineOf, standing}
-use Rattle.line_in_place.specs.StandingLaws.{stands-whole, stands-in-part, whole-within}
+use Rattle.line_in_place.specs.Laws.Standing.{stands-whole, stands-in-part, whole-within}
 use Rattle.text.specs.Answer.{answer, noCase}
 use Rattle.text.specs.Gather.{isInLine, piece}
 use Rattle.text.specs.Line.{readLine}
@@ -24,22 +26,30 @@ seven : NumberAt chunk 0 1 7
 unfolding piece every isDigit value valueFrom
 seven =
     without-sign (lit≤ tt)
-    (record { forward = lit≤ tt; within = lit≤ tt; digits = refl; amount = refl })
-    (lit< tt) (lit≤ tt) (lit≤ tt)
+    (record {
+      digits = record { forward = lit≤ tt; within = lit≤ tt; digits = refl; amount = refl };
+      some = lit< tt;
+      near = lit≤ tt;
+      fits = lit≤ tt;
+    })
 
 minus-one : NumberAt chunk 2 4 4294967295
 unfolding piece every isDigit value valueFrom
 minus-one =
     with-sign (lit≤ tt) refl
-    (record { forward = lit≤ tt; within = lit≤ tt; digits = refl; amount = refl })
-    (lit< tt) (lit≤ tt) (lit≤ tt)
+    (record {
+      digits = record { forward = lit≤ tt; within = lit≤ tt; digits = refl; amount = refl };
+      some = lit< tt;
+      near = lit≤ tt;
+      fits = lit≤ tt;
+    })
 
 row : Row chunk 0 2 1 (7 ∷ [])
 unfolding isBlank
 row = row-more (row-none chunk 0) seven refl
 
 line : PlainLine 2 chunk 0 5 (7 ∷ 4294967295 ∷ [])
-line = row-ends row minus-one (lit≤ tt) 5 (lit< tt) refl refl
+line = row-ends row minus-one (lit< tt) 5 (lit< tt) refl refl
 
 whole : lineOf true 5 (answer (readLine (piece 0 5 chunk))) ≡ standing chunk 0
 whole = stands-whole chunk 0 5 _ (line .end) (lit< tt) refl

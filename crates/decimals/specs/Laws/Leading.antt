@@ -9,7 +9,7 @@ use Rattle.splice.specs.Splice.{splice}
 use Rattle.splice.specs.Laws.{splice-again}
 use Rattle.splice.specs.Put.{Put, put-as, put-then}
 use Rattle.decimals.specs.Decimal.{decimal}
-use Rattle.decimals.specs.DecimalLaws.{decimal-small, decimal-large}
+use Rattle.decimals.specs.Laws.Decimal.{decimal-small, decimal-large}
 
 -- the digits of y in front of a further digit: none where y is 0
 unfoldable pub ahead : ℕ → List ℕ

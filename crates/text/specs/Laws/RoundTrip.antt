@@ -6,20 +6,16 @@ use Prim.Native.Nat.{ℕ, suc, _*_, _^_, _≤_, _<_}
 use native.Mathlib.Nat.{lt-trans}
 use native.Mathlib.Omega.{arith}
 use lib.Dec.{lit<}
-use lib.ListN.{length, getD, length-append}
+use lib.ListN.{length, length-append}
 use Rattle.decimals.specs.Decimal.{decimal, spaced, written}
-use Rattle.decimals.specs.DecimalLaws.{count-positive, count-below}
+use Rattle.decimals.specs.Laws.Decimal.{count-positive, count-below}
 use Rattle.text.specs.declared.number.Reading.{Reading}
-use Rattle.text.specs.Line.{aCase, before, field, fields, readLineOf, readLine}
+use Rattle.text.specs.Line.{aCase, before, field, fields, longestLine, readLineOf, readLine}
 use Rattle.fields.specs.Fields.{width}
-use Rattle.text.specs.Number.{isDigit, every}
-use Rattle.text.specs.NumberLaws.{every-append, every-weaker, decimal-digits, read-decimal}
-use Rattle.text.specs.WordLaws.{one-field, blank-first, isNumeral, isPlain, digit-ink, digit-plain, plain-case}
+use Rattle.text.specs.Number.{isDigit, isNumeral, every, Below32}
+use Rattle.text.specs.Laws.Number.{every-append, every-weaker, decimal-digits, read-decimal}
+use Rattle.text.specs.Laws.Words.{one-field, blank-first, isPlain, digit-ink, digit-plain, plain-case}
 use Rattle.text.specs.Words.{isBlank, isInk, run, isEmpty, dropBlanks}
-
--- every number is below 2^32
-unfoldable pub Below32 : List ℕ → Type 0
-Below32 xs = (i : ℕ) → getD xs i 0 < 2 ^ 32
 
 ink-stops : (xs : List ℕ) → run isInk (spaced xs) ≡ 0
 unfolding run spaced isInk isBlank
@@ -59,13 +55,13 @@ spaced-length [] h = omega arith
 spaced-length (x ∷ xs) h =
     omega (arith, length-append (decimal x) (spaced xs), short x (h 0), spaced-length xs (λ i. h (suc i)))
 
-read-back : (x : ℕ) (xs : List ℕ) → Below32 (x ∷ xs) → suc (length xs) * 11 ≤ 1023
+read-back : (x : ℕ) (xs : List ℕ) → Below32 (x ∷ xs) → suc (length xs) * 11 ≤ longestLine
     → readLineOf (suc (length xs)) (decimal x ++ spaced xs) ≡ aCase (x ∷ xs)
 unfolding Below32 before
 read-back x xs h k =
     let size = length-append (decimal x) (spaced xs) in
     let some : 0 < length (decimal x ++ spaced xs) = omega (arith, size, count-positive x) in
-    let fits : length (decimal x ++ spaced xs) ≤ 1023 = omega (arith, size, short x (h 0), spaced-length xs (λ i. h (suc i))) in
+    let fits : length (decimal x ++ spaced xs) ≤ longestLine = omega (arith, size, short x (h 0), spaced-length xs (λ i. h (suc i))) in
     let plain = every-append isPlain (decimal x) (spaced xs) (decimal-plain x) (spaced-plain xs) in
     plain-case (decimal x ++ spaced xs) some plain (length xs) (x ∷ xs)
     (number-first x xs (length xs) (h 0) ∙ ap (before x) (spaced-fields xs (λ i. h (suc i))))
@@ -74,7 +70,7 @@ read-back x xs h k =
 -- ---- the theorems
 
 -- as many numbers as a line has room for, at eleven bytes each
-pub round-trip : (xs : List ℕ) → 0 < length xs → length xs * 11 ≤ 1023 → Below32 xs → readLineOf (length xs) (written xs) ≡ aCase xs
+pub round-trip : (xs : List ℕ) → 0 < length xs → length xs * 11 ≤ longestLine → Below32 xs → readLineOf (length xs) (written xs) ≡ aCase xs
 unfolding written
 round-trip [] m k h = absurd (omega arith)
 round-trip (x ∷ xs) m k h = read-back x xs h k

@@ -15,9 +15,9 @@ use Rattle.text.specs.declared.line.Read.{Read}
 use Rattle.text.specs.Gather.{isInLine, piece}
 use Rattle.text.specs.Line.{readLine}
 use Rattle.text.specs.Number.{every}
-use Rattle.text.specs.Pieces.{piece-then, piece-length}
-use Rattle.text.specs.Runs.{run-stop}
-use Rattle.text.specs.WordLaws.{run-past}
+use Rattle.text.specs.Laws.Pieces.{piece-then, piece-length}
+use Rattle.text.specs.Laws.Runs.{run-stop}
+use Rattle.text.specs.Laws.Words.{run-past}
 use Rattle.text.specs.Words.{run}
 
 -- bytes before a line feed, none of which is one

@@ -35,5 +35,6 @@ ex-lines : (readLineOf 2 (32 ∷ 49 ∷ 9 ∷ 32 ∷ 9 ∷ 50 ∷ 32 ∷ []) ≡
     × (readLineOf 2 (32 ∷ 9 ∷ 13 ∷ []) ≡ passedOver)
     × (readLineOf 2 (35 ∷ 49 ∷ 32 ∷ 50 ∷ []) ≡ passedOver)
     × (readLineOf 2 (32 ∷ 35 ∷ 49 ∷ 32 ∷ 50 ∷ []) ≡ unreadable)
-unfolding readLineOf says textLength fields field before word dropWord dropBlanks run isBlank isInk readNumber readDigits value valueFrom every isDigit isEmpty
+unfolding readLineOf says textLength fields field before word dropWord dropBlanks run isBlank isInk
+    readNumber readDigits value valueFrom every isDigit isEmpty
 ex-lines = (refl, refl, refl, refl, refl, refl, refl, refl, refl)

@@ -7,7 +7,7 @@ use lib.Dec.{eqb, ltb}
 use lib.ListN.{length, getD, take}
 use Rattle.text.specs.declared.number.Reading.{Reading}
 use Rattle.text.specs.declared.number.Reading.the-variants.{Number, Nothing}
-use Rattle.text.specs.Line.{Said, passedOver, aCase, unreadable, before, field, fields, says, textLength, readLineOf}
+use Rattle.text.specs.Line.{Said, passedOver, aCase, unreadable, before, field, fields, says, textLength, longestLine, readLineOf}
 use Rattle.text.specs.Number.{readNumber}
 use Rattle.text.specs.Words.{isEmpty, dropBlanks, word, dropWord}
 
@@ -38,7 +38,7 @@ counted : (n : ℕ) (l : List ℕ) → Counted n (readLineOf n l)
 unfolding readLineOf says Counted
 counted n l =
     let s = take (textLength l) l in
-    either n (ltb 1023 (length l)) unreadable (says n s) tt
+    either n (ltb longestLine (length l)) unreadable (says n s) tt
     (either n (isEmpty (dropBlanks s) || eqb (getD s 0 0) 35) passedOver (fields n s) tt (fields-counted n s))
 
 pub case-length : (n : ℕ) (l xs : List ℕ) → readLineOf n l ≡ aCase xs → length xs ≡ n

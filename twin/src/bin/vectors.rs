@@ -1,4 +1,4 @@
-// vectors: writes the input of the program evidence (crates/check_vectors/stdin): cases
+// vectors: writes the input of the program check_vectors (crates/check_vectors/stdin): cases
 // with what they must get, each a line that rate reads and a line that it must
 // print, or a range of the rating in mA. The same cases in every run.
 

@@ -1,6 +1,6 @@
 -- How large and how small the stages' numbers get within the limits of the fields (docs/FIELDS.md), as the code of the stages requires
--- and the laws use. Each is a plain number with a name; Laws.Ranges and Laws.LogRange prove that it bounds what it is named for.
--- Assumes nothing.
+-- and the laws use. Each is a plain number with a name; that it bounds what it is named for is proved in Laws.Ranges and Laws.LogRange,
+-- or where `stages` uses it. Assumes nothing.
 use Prim.Native.Nat.{ℕ}
 
 -- Stage 1, whose factor goes from 7300000 (α 450 at -40 °C) to 20350000 (α 450 at 250 °C).

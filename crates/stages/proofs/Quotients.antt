@@ -14,12 +14,14 @@ module _ {round : ℕ → ℕ → ℕ} (bounded : Bounded round) where
   fits {a} {b} k b>0 h small = lt-of-le-of-lt (bounded a k b b>0 h) (lit< small)
 
   -- the square over T of a quotient v that is at most m
-  pub square-fits :
-      {a b v : ℕ} (m k : ℕ) → v ≡ round a b → 0 < b → a ≤ m * b → T (leb (m * m) (k * trillion)) → T (ltb k (2 ^ 64)) →
-      round (v * v) trillion < 2 ^ 64
-  square-fits {a} {b} {v} m k v-is b>0 h square≤ small =
-      let v≤ : v ≤ m = omega (arith, bounded a m b b>0 h) in
-      fits k (lit< tt) (le-trans (mul-le-mul v≤ v≤) (lit≤ square≤)) small
+  module _ {a b v : ℕ} (m k : ℕ) (v-is : v ≡ round a b) (b>0 : 0 < b) (h : a ≤ m * b) (small : T (leb (m * m) (k * trillion))) where
+    pub square-most : round (v * v) trillion ≤ k
+    square-most =
+        let v≤ : v ≤ m = omega (arith, bounded a m b b>0 h) in
+        bounded (v * v) k trillion (lit< tt) (le-trans (mul-le-mul v≤ v≤) (lit≤ small))
+
+    pub square-fits : T (ltb k (2 ^ 64)) → round (v * v) trillion < 2 ^ 64
+    square-fits limb = lt-of-le-of-lt square-most (lit< limb)
 
 pub fits-up : {a b : ℕ} (k : ℕ) → 0 < b → a ≤ k * b → T (ltb k (2 ^ 64)) → up a b < 2 ^ 64
 fits-up = fits up-bounded

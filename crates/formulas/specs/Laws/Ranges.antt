@@ -28,14 +28,7 @@ use Rattle.formulas.specs.Sheath.{
   eddySpacing,
   eddyLoss,
 }
-use Rattle.formulas.specs.Armour.{
-  armourRatio,
-  armourRatioSquared,
-  reducedArmourResistance,
-  unscreenedLoss,
-  screeningRatioSquared,
-  screenedLoss,
-}
+use Rattle.formulas.specs.Armour.{reducedArmourResistance, unscreenedLoss, screeningRatioSquared, screenedLoss}
 use Rattle.formulas.specs.Dielectric.{dielectricResistance, dielectricRise}
 use Rattle.formulas.specs.Rating.{unitRise}
 use Rattle.formulas.specs.Laws.Temperature.{FactorRange, temperatureFactor-range}
@@ -61,8 +54,6 @@ use Rattle.formulas.specs.Bounds.{
   mostEddySpacing,
   mostEddyInner,
   mostSheathLoss,
-  mostArmourRatio,
-  mostArmourRatioSquared,
   mostArmourLoss,
   mostDielectricLoss,
   mostDielectricResistance,
@@ -214,14 +205,6 @@ eddyLoss-most {j} {rs} {d} {s} b j≤ rs>0 rs≤ b≤ s>0 d≤s =
     up-least _ _ (lit< tt) (le-trans (mul-le-mul cores≤ (eddySpacing-most s>0 d≤s)) (lit≤ tt))
 
 -- The armour.
-
-pub armourRatio-most : {ra b : ℕ} → ra ≤ mostResistance → leastReactance ≤ b → armourRatio ra b ≤ mostArmourRatio
-unfolding armourRatio
-armourRatio-most ra≤ b≥ = down-most-above _ _ (omega arith) (omega arith)
-
-pub armourRatioSquared-most : {y : ℕ} → y ≤ mostArmourRatio → armourRatioSquared y ≤ mostArmourRatioSquared
-unfolding armourRatioSquared tera
-armourRatioSquared-most y≤ = down-most-above _ _ (lit< tt) (omega (arith, mul-le-mul y≤ y≤))
 
 pub reducedArmourResistance-most : (ra b : ℕ) → reducedArmourResistance ra b ≤ ra
 unfolding reducedArmourResistance tera

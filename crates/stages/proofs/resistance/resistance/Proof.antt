@@ -10,12 +10,10 @@ use Rattle.formulas.specs.Resistance.{resistance}
 use Rattle.stages.proofs.resistance.resistance.Statement.{statement}
 use Rattle.stages.proofs.resistance.resistance.Tie as tie
 
-mul-result : tie.Need-mul-result
-mul-result c = omega (arith, mul-le-mul (c .before .pre .0) (c .temperature-factor .ensures .1))
-
-returns : tie.Need-returns
-unfolding resistance
-returns c = ap (λ z. c .before .args .field * natAbs z) (c .temperature-factor .ensures .0)
-
 pub resistance-spec : {M : Type 1} → statement M
-resistance-spec = tie.close (tie.spec (λ c κs. search needs) mul-result returns)
+unfolding resistance
+resistance-spec =
+    tie.close
+    (tie.spec (λ c κs. search needs)
+    (λ c. omega (arith, mul-le-mul (c .before .pre .0) (c .temperature-factor .ensures .1)))
+    (λ c. ap (λ z. c .before .args .field * natAbs z) (c .temperature-factor .ensures .0)))

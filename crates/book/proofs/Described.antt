@@ -6,17 +6,21 @@ use native.Mathlib.Omega.{arith}
 use lib.ListN.{length}
 use Rattle.book_bytes.specs.declared.trailer.Description as Code
 use Rattle.book_bytes.specs.Answers.{descriptionOf}
-use Rattle.book_laws.specs.Trailer.{Description, describe}
-use Rattle.book_laws.specs.TrailerLaws.{Described, described}
+use Rattle.book_laws.specs.Layout.{rbk1, recordLength, trailerLength}
+use Rattle.book_laws.specs.Trailer.{Description}
+use Rattle.book_laws.specs.Record.{placeFrom}
+use Rattle.book_laws.specs.Book.{describe}
+use Rattle.book_laws.specs.Laws.Trailer.{Described, described}
 
 pub of-book :
-    (b : List ℕ) (used : ℕ) {d : Code.Description} → descriptionOf d ≡ describe b used → d .number ≡ 0 → Described b used (descriptionOf d)
+    (b : List ℕ) (used : ℕ) {d : Code.Description} → descriptionOf d ≡ describe b used → d .number ≡ 0 →
+    Described rbk1 b used (descriptionOf d)
 of-book b used is none =
-    subst (λ (e : Description). Described b used e) (sym is) (described b used (sym (ap (λ (e : Description). e .number) is) ∙ none))
+    subst (Described rbk1 b used) (sym is) (described rbk1 b used (sym (ap (λ (e : Description). e .number) is) ∙ none))
 
 -- a record and the trailer after it stand within the used length, which is within the buffer
 pub record Inside (b : List ℕ) (used : ℕ) (d : Code.Description) (index : ℕ) : Type 0 where
-  pub ends : d .first + 112 * index + 128 ≤ used
+  pub ends : placeFrom rbk1 (d .first) index + recordLength rbk1 + trailerLength rbk1 ≤ used
   pub used-most : used ≤ length b
 
 pub inside :

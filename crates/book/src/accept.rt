@@ -1,8 +1,9 @@
 // Accepting a book: every record is its case's rating.
 ghost use mathlib.Core.Path.{_≡_};
 ghost use Rattle.book_laws.specs.Accept;
-ghost use Rattle.book_laws.specs.Accept.{acceptOf, Differs};
+ghost use Rattle.book_laws.specs.Book.{acceptOf, Differs};
 ghost use Rattle.book.specs.Answers.{acceptanceOf};
+use book_bytes::layout::RECORD_LENGTH;
 use book_bytes::record::record_agrees;
 use book_bytes::trailer::describe_book;
 
@@ -34,19 +35,18 @@ pub fn accept(buffer: &[u8], used: usize) -> Acceptance
         return unaccepted(d.number, 0);
     }
     let count = d.count;
-    let mut at = d.first;
-    let mut left = count;
-    while 0 < left {
-        if !record_agrees(buffer, at) {
-            return unaccepted(23, count - left + 1);
+    let first = d.first;
+    let mut i = 0;
+    while i < count {
+        if !record_agrees(buffer, first + RECORD_LENGTH * i) {
+            return unaccepted(23, i + 1);
         }
-        at += 112;
-        left -= 1;
+        i += 1;
     }
     Acceptance {
         number: 0,
         count,
-        note: d.first,
+        note: first,
         named: 0,
     }
 }

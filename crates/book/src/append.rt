@@ -5,12 +5,16 @@ ghost use mathlib.Core.Path.{_≡_};
 ghost use Prim.Native.Nat.{_+_, _≤_};
 ghost use lib.Dec.{leb, ltb};
 ghost use lib.ListN.{length};
-ghost use Rattle.book_laws.specs.Append.{appendOf};
+ghost use Rattle.book_laws.specs.Book.{appendOf};
 ghost use Rattle.book_laws.specs.Format.{recordBytes, trailerBytes};
+ghost use Rattle.book_laws.specs.Layout.{rbk1, recordLength, trailerLength};
 ghost use Rattle.book.specs.Answers.{writtenOf};
 ghost use Rattle.splice.specs.Splice.{splice};
 use super::start::Written;
 use super::start::unwritten;
+use book_bytes::layout::MOST_RECORDS;
+use book_bytes::layout::RECORD_LENGTH;
+use book_bytes::layout::TRAILER_LENGTH;
 use book_bytes::record::fields_of;
 use book_bytes::record::put_fields;
 use book_bytes::trailer::describe_book;
@@ -20,22 +24,22 @@ use rating::rate::rate;
 
 // Writes the record of a case at `at`, and the trailer of a book of `count` records after it.
 fn put_record(buffer: &mut [u8], at: usize, x: Case, count: u32)
-    requires { ⌜ (at + 128 ≤ length (now buffer)) × (count ≤ 100000) ⌝ }
-    ensures { λ _. ⌜ now (buffer .exit) ≡ splice (now (buffer .entry)) at (recordBytes x ++ trailerBytes count) ⌝ }
+    requires { ⌜ (at + (recordLength rbk1 + trailerLength rbk1) ≤ length (now buffer)) × (count ≤ rbk1 .most) ⌝ }
+    ensures { λ _. ⌜ now (buffer .exit) ≡ splice (now (buffer .entry)) at (recordBytes rbk1 x ++ trailerBytes rbk1 count) ⌝ }
 {
     let a = rate(x);
     put_fields(buffer, at, fields_of(x, a.answer, a.rating));
-    put_trailer(buffer, at + 112, count);
+    put_trailer(buffer, at + RECORD_LENGTH, count);
 }
 
-// Append's own refusals: 25 of a book of 100000 records, then 24 where the buffer has fewer than 112 bytes left; or 0.
+// Append's own refusals: 25 of a book that has the most records, then 24 where the buffer has no room for a record more; or 0.
 fn own_refusal(count: usize, left: usize) -> u32
-    ensures { λ r. ⌜ r ≡ cond (leb 100000 count) 25 (cond (ltb left 112) 24 0) ⌝ }
+    ensures { λ r. ⌜ r ≡ cond (leb (rbk1 .most) count) 25 (cond (ltb left (recordLength rbk1)) 24 0) ⌝ }
 {
-    if 100000 <= count {
+    if MOST_RECORDS <= count {
         return 25;
     }
-    if left < 112 {
+    if left < RECORD_LENGTH {
         return 24;
     }
     0
@@ -52,9 +56,9 @@ pub fn append(buffer: &mut [u8], used: usize, x: Case) -> Written
     if own != 0 {
         return unwritten(own);
     }
-    put_record(buffer, used - 16, x, d.count as u32 + 1);
+    put_record(buffer, used - TRAILER_LENGTH, x, d.count as u32 + 1);
     Written {
         number: 0,
-        used: used + 112,
+        used: used + RECORD_LENGTH,
     }
 }

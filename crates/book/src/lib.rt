@@ -1,4 +1,4 @@
-// A book of ratings in a buffer that the caller lends: start, append, read and accept, document 01's 'The book'.
+// A book of ratings in a buffer that the caller lends: start, append, read and accept (docs/BOOK.md).
 pub mod accept;
 pub mod append;
 pub mod read;

@@ -1,29 +1,31 @@
 // Reading a record by its index from 0, as written, not judged.
 ghost use mathlib.Core.Path.{_≡_};
+ghost use Rattle.book_laws.specs.Layout.{rbk1};
 ghost use Rattle.book_laws.specs.Read;
-ghost use Rattle.book_laws.specs.Read.{readOf};
+ghost use Rattle.book_laws.specs.Book.{readOf};
 ghost use Rattle.book.specs.Answers.{fieldsRead};
-use book_bytes::field::word_at;
-use book_bytes::record::case_at;
-use book_bytes::record::fields_of;
+use book_bytes::layout::RECORD_FIELDS;
+use book_bytes::layout::RECORD_LENGTH;
+use book_bytes::layout::Record;
+use book_bytes::record::fields_at;
 use book_bytes::trailer::describe_book;
 
-// 0 or the refusal's number; and the 26 inputs, the answer and the rating.
-pub struct Record {
+// 0 or the refusal's number; and the inputs, the answer and the rating.
+pub struct Found {
     pub number: u32,
-    pub fields: [u32; 28],
+    pub fields: Record,
 }
 
-fn unread(number: u32) -> Record
-    ensures { λ r. ⌜ fieldsRead r ≡ Read.unread number ⌝ }
+fn unread(number: u32) -> Found
+    ensures { λ r. ⌜ fieldsRead r ≡ Read.unread rbk1 number ⌝ }
 {
-    Record {
+    Found {
         number,
-        fields: [0; 28],
+        fields: [0; RECORD_FIELDS],
     }
 }
 
-pub fn read(buffer: &[u8], used: usize, index: usize) -> Record
+pub fn read(buffer: &[u8], used: usize, index: usize) -> Found
     ensures { λ r. ⌜ fieldsRead r ≡ readOf (now (buffer .entry)) used index ⌝ }
 {
     let d = describe_book(buffer, used);
@@ -33,13 +35,8 @@ pub fn read(buffer: &[u8], used: usize, index: usize) -> Record
     if d.count <= index {
         return unread(26);
     }
-    let at = d.first + 112 * index;
-    Record {
+    Found {
         number: 0,
-        fields: fields_of(
-            case_at(buffer, at),
-            word_at(buffer, at + 104),
-            word_at(buffer, at + 108),
-        ),
+        fields: fields_at(buffer, d.first + RECORD_LENGTH * index),
     }
 }

@@ -1,4 +1,4 @@
--- What the reading of a trailer returns, as document 01's description in `book_laws`. Assumes nothing.
+-- What the reading of a trailer returns, as the description of `book_laws`. Assumes nothing.
 use Rattle.book_bytes.specs.declared.trailer.Description as Code
 use Rattle.book_laws.specs.Trailer.{Description}
 

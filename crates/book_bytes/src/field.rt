@@ -3,7 +3,7 @@ ghost use mathlib.Core.List.{[], _∷_};
 ghost use mathlib.Core.Path.{_≡_};
 ghost use Prim.Native.Nat.{_+_, _*_, _≤_};
 ghost use lib.ListN.{length};
-ghost use Rattle.book_laws.specs.Format.{wordAt, wordBytes};
+ghost use Rattle.book_laws.specs.Bytes.{wordAt, wordBytes};
 ghost use Rattle.splice.specs.Splice.{splice};
 
 // The word of four bytes, the highest first.

@@ -1,5 +1,7 @@
-// The code of a book's format: fields, the mark, records and the trailer, each as `book_laws` describes it. `book` has the operations.
+// The code of a book's format: its layout, fields, the mark, records and the trailer, each as `book_laws` describes it. `book` has the
+// operations.
 pub mod field;
+pub mod layout;
 mod mark;
 pub mod record;
 pub mod trailer;

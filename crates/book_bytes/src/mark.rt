@@ -2,15 +2,15 @@
 ghost use mathlib.Core.Path.{_≡_};
 ghost use Prim.Native.Nat.{_+_, _≤_};
 ghost use lib.ListN.{length};
-ghost use Rattle.book_laws.specs.Format.{mark, stands};
+ghost use Rattle.book_laws.specs.Bytes.{stands};
+ghost use Rattle.book_laws.specs.Layout.{rbk1};
 ghost use Rattle.splice.specs.Splice.{splice};
 use super::field::put_four;
-
-const MARK: [u8; 4] = *b"RBK1";
+use super::layout::MARK;
 
 pub(crate) fn has_mark(buffer: &[u8], at: usize) -> bool
     requires { ⌜ at + 4 ≤ length (now buffer) ⌝ }
-    ensures { λ r. ⌜ r ≡ stands mark (now (buffer .entry)) at ⌝ }
+    ensures { λ r. ⌜ r ≡ stands (rbk1 .mark) (now (buffer .entry)) at ⌝ }
 {
     (buffer[at] == MARK[0])
         & (buffer[at + 1] == MARK[1])
@@ -20,7 +20,7 @@ pub(crate) fn has_mark(buffer: &[u8], at: usize) -> bool
 
 pub(crate) fn put_mark(buffer: &mut [u8], at: usize)
     requires { ⌜ at + 4 ≤ length (now buffer) ⌝ }
-    ensures { λ _. ⌜ now (buffer .exit) ≡ splice (now (buffer .entry)) at mark ⌝ }
+    ensures { λ _. ⌜ now (buffer .exit) ≡ splice (now (buffer .entry)) at (rbk1 .mark) ⌝ }
 {
     put_four(buffer, at, MARK[0], MARK[1], MARK[2], MARK[3])
 }

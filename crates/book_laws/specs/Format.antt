@@ -1,68 +1,35 @@
--- Document 01, 'The book', the bytes: note bytes, then records, then a trailer. Each part is described once, as what is written and what is
--- read. Assumes nothing.
-use mathlib.Core.Bool.{Bool, true, _&&_}
+-- docs/BOOK.md, 'The bytes', of a layout: what a record and a trailer are written as, and where the trailer's numbers are read.
+-- Assumes nothing.
 use mathlib.Core.List.{List, [], _∷_, _++_}
-use Prim.Native.Nat.{ℕ, zero, suc, _+_, _*_, _/_, _%_}
-use lib.Dec.{eqb, ltb}
-use lib.ListN.{getD}
-use Rattle.fields.specs.Fields.{width}
-use Rattle.rating.specs.Rate.{rateOf}
-
--- A field is a big-endian word of 32 bits.
-
-unfoldable pub wordBytes : ℕ → List ℕ
-wordBytes w = w / 16777216 % 256 ∷ w / 65536 % 256 ∷ w / 256 % 256 ∷ w % 256 ∷ []
-
-unfoldable pub wordAt : List ℕ → ℕ → ℕ
-wordAt b at = getD b at 0 * 16777216 + getD b (at + 1) 0 * 65536 + getD b (at + 2) 0 * 256 + getD b (at + 3) 0
-
--- Fields one after another.
-
-unfoldable pub wordsBytes : List ℕ → List ℕ
-wordsBytes [] = []
-wordsBytes (w ∷ ws) = wordBytes w ++ wordsBytes ws
-
--- n fields from `at` on
-unfoldable pub wordsAt : List ℕ → ℕ → ℕ → List ℕ
-wordsAt b at zero = []
-wordsAt b at (suc n) = wordAt b at ∷ wordsAt b (at + 4) n
+use Prim.Native.Nat.{ℕ, _+_, _*_}
+use Rattle.book_laws.specs.Bytes.{numberBytes, numberAt, wordBytes, wordAt, wordsBytes}
+use Rattle.book_laws.specs.Layout.{Layout, recordLength}
 
 -- A record is the inputs, the answer (0 rated, else the refusal) and the rating.
 
-abbrev pub recordFields : ℕ
-recordFields = width + 2
+unfoldable pub fieldsOf : Layout → List ℕ → List ℕ
+fieldsOf l x = let a = l .rule x in x ++ (a .number ∷ a .rating ∷ [])
 
-abbrev pub recordLength : ℕ
-recordLength = 4 * recordFields
+unfoldable pub recordBytes : Layout → List ℕ → List ℕ
+recordBytes l x = wordsBytes (fieldsOf l x)
 
-unfoldable pub fieldsOf : List ℕ → List ℕ
-fieldsOf x = x ++ (rateOf x .number ∷ rateOf x .rating ∷ [])
-
-unfoldable pub recordBytes : List ℕ → List ℕ
-recordBytes x = wordsBytes (fieldsOf x)
-
-unfoldable pub recordsBytes : List (List ℕ) → List ℕ
-recordsBytes [] = []
-recordsBytes (x ∷ xs) = recordBytes x ++ recordsBytes xs
+unfoldable pub recordsBytes : Layout → List (List ℕ) → List ℕ
+recordsBytes l [] = []
+recordsBytes l (x ∷ xs) = recordBytes l x ++ recordsBytes l xs
 
 -- The trailer is the mark, the count, the distance back to the first record and the record length.
 
-abbrev pub trailerLength : ℕ
-trailerLength = 16
+unfoldable pub trailerBytes : Layout → ℕ → List ℕ
+trailerBytes l count =
+    l .mark ++ numberBytes (l .width) count ++ numberBytes (l .width) (recordLength l * count) ++ wordBytes (recordLength l)
 
--- ASCII "RBK1"
-abbrev pub mark : List ℕ
-mark = 82 ∷ 66 ∷ 75 ∷ 49 ∷ []
+-- The numbers of the trailer at `at`.
 
-unfoldable pub trailerBytes : ℕ → List ℕ
-trailerBytes count = mark ++ wordsBytes (count ∷ recordLength * count ∷ recordLength ∷ [])
+abbrev pub countAt : Layout → List ℕ → ℕ → ℕ
+countAt l b at = numberAt b (at + 4) (l .width)
 
--- whether the bytes vs stand from `at` on
-unfoldable pub stands : List ℕ → List ℕ → ℕ → Bool
-stands [] b at = true
-stands (v ∷ vs) b at = eqb (getD b at 0) v && stands vs b (at + 1)
+abbrev pub distanceAt : Layout → List ℕ → ℕ → ℕ
+distanceAt l b at = numberAt b (at + (4 + l .width)) (l .width)
 
--- whether each number is below n: a list of bytes where n is 256, of words where it is 2^32
-unfoldable pub below : ℕ → List ℕ → Bool
-below n [] = true
-below n (x ∷ xs) = ltb x n && below n xs
+abbrev pub lengthAt : Layout → List ℕ → ℕ → ℕ
+lengthAt l b at = wordAt b (at + (4 + 2 * l .width))

@@ -2,7 +2,7 @@
 use mathlib.Core.Bool.{Bool, true, false, cond}
 use mathlib.Core.List.{List, _∷_}
 use Prim.Native.Nat.{ℕ}
-use Rattle.book_laws.specs.Append.{appendOf}
+use Rattle.book_laws.specs.Book.{appendOf}
 use Rattle.book_laws.specs.Start.{Written}
 use Rattle.keep_book.specs.declared.Kept as Code
 use Rattle.text.specs.Line.{Said, passedOver, aCase, unreadable}

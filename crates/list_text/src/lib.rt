@@ -5,13 +5,17 @@ ghost use mathlib.Core.Path.{_≡_};
 ghost use Prim.Native.Nat.{_+_, _*_, _≤_, _<_};
 ghost use lib.ListN.{length};
 ghost use Rattle.book.specs.Answers.{acceptanceOf};
-ghost use Rattle.book_laws.specs.Accept.{acceptOf, Differs};
+ghost use Rattle.book_laws.specs.Book.{acceptOf, Differs};
+ghost use Rattle.book_laws.specs.Layout.{rbk1, recordLength};
+ghost use Rattle.book_laws.specs.Record.{placeFrom};
 ghost use Rattle.list_text.specs.Listing.{recordLine, recordLines, listingFor, listingOf};
 ghost use Rattle.splice.specs.Splice.{splice};
 ghost use Rattle.decimals.specs.Decimal.{decimal, written};
 use book::accept::Acceptance;
 use book::accept::accept;
-use book::read::read;
+use book_bytes::layout::RECORD_LENGTH;
+use book_bytes::record::answer_at;
+use book_bytes::record::rating_at;
 use decimals::put_byte;
 use decimals::put_decimal;
 use decimals::put_number;
@@ -42,51 +46,52 @@ fn put_numbers(out: &mut [u8], at: usize, number: u64, answer: u64, rating: u64)
     put_byte(out, third, b'\n')
 }
 
-fn long(x: u32) -> u64
-    ensures { λ r. ⌜ r ≡ x ⌝ }
-{
-    x as u64
-}
-
-// The line of record i, from 0.
-fn put_record(out: &mut [u8], at: usize, book: &[u8], used: usize, i: usize) -> usize
-    requires { ⌜ (at + 63 ≤ length (now out)) × (i < 100000) ⌝ }
-    ensures { λ r. ⌜ (r ≡ at + length (recordLine (now (book .entry)) used i))
-        × (now (out .exit) ≡ splice (now (out .entry)) at (recordLine (now (book .entry)) used i)) ⌝ }
+// The line of record i, from 0, of a book whose first record stands at `first`.
+fn put_record(out: &mut [u8], at: usize, book: &[u8], first: usize, i: usize) -> usize
+    requires { ⌜ (at + 63 ≤ length (now out)) × (placeFrom rbk1 first i + recordLength rbk1 ≤ length (now book)) × (i < rbk1 .most) ⌝ }
+    ensures { λ r. ⌜ (r ≡ at + length (recordLine rbk1 (now (book .entry)) first i))
+        × (now (out .exit) ≡ splice (now (out .entry)) at (recordLine rbk1 (now (book .entry)) first i)) ⌝ }
     ensures { λ r. ⌜ r ≤ at + 63 ⌝ }
 {
-    let found = read(book, used, i);
-    let fields = found.fields;
-    put_numbers(out, at, i as u64 + 1, long(fields[26]), long(fields[27]))
+    let place = first + RECORD_LENGTH * i;
+    put_numbers(
+        out,
+        at,
+        i as u64 + 1,
+        answer_at(book, place) as u64,
+        rating_at(book, place) as u64,
+    )
 }
 
 // The lines of the first `count` records.
-fn put_records(out: &mut [u8], at: usize, book: &[u8], used: usize, count: usize) -> usize
-    requires { ⌜ (at + 63 * count ≤ length (now out)) × (count ≤ 100000) ⌝ }
-    ensures { λ r. ⌜ (r ≡ at + length (recordLines (now (book .entry)) used count))
-        × (now (out .exit) ≡ splice (now (out .entry)) at (recordLines (now (book .entry)) used count)) ⌝ }
+fn put_records(out: &mut [u8], at: usize, book: &[u8], first: usize, count: usize) -> usize
+    requires { ⌜ (at + 63 * count ≤ length (now out)) × (placeFrom rbk1 first count ≤ length (now book)) × (count ≤ rbk1 .most) ⌝ }
+    ensures { λ r. ⌜ (r ≡ at + length (recordLines rbk1 (now (book .entry)) first count))
+        × (now (out .exit) ≡ splice (now (out .entry)) at (recordLines rbk1 (now (book .entry)) first count)) ⌝ }
     ensures { λ r. ⌜ r ≤ at + 63 * count ⌝ }
 {
     let mut end = at;
     let mut i = 0;
     while i < count {
-        end = put_record(out, end, book, used, i);
+        end = put_record(out, end, book, first, i);
         i += 1;
     }
     end
 }
 
 // By what accept answered: at most 64 bytes for the first line, and 63 for each record.
-fn put_listing(out: &mut [u8], book: &[u8], used: usize, a: Acceptance) -> usize
-    requires { ⌜ (64 + 63 * a .count ≤ length (now out)) × (a .count ≤ 100000) ⌝ }
-    ensures { λ r. ⌜ (r ≡ length (listingFor (now (book .entry)) used (acceptanceOf a)))
-        × (now (out .exit) ≡ splice (now (out .entry)) 0 (listingFor (now (book .entry)) used (acceptanceOf a))) ⌝ }
+fn put_listing(out: &mut [u8], book: &[u8], a: Acceptance) -> usize
+    requires { ⌜ (64 + 63 * a .count ≤ length (now out)) × (placeFrom rbk1 (a .note) (a .count) ≤ length (now book))
+        × (a .count ≤ rbk1 .most) ⌝ }
+    ensures { λ r. ⌜ (r ≡ length (listingFor rbk1 (now (book .entry)) (acceptanceOf a)))
+        × (now (out .exit) ≡ splice (now (out .entry)) 0 (listingFor rbk1 (now (book .entry)) (acceptanceOf a))) ⌝ }
     ensures { λ r. ⌜ r ≤ 64 + 63 * a .count ⌝ }
 {
     if a.number == 0 {
         let count = a.count;
+        let first = a.note;
         let at = put_line(out, 0, b"book ", count as u64);
-        return put_records(out, at, book, used, count);
+        return put_records(out, at, book, first, count);
     }
     if a.number == 23 {
         return put_line(out, 0, b"refused 23 at ", a.named as u64);
@@ -110,7 +115,7 @@ pub fn list_book(book: &[u8; 65536], used: usize, out: &mut [u8; 65536]) -> List
 {
     let a = accept(book, used);
     Listed {
-        len: put_listing(out, book, used, a),
+        len: put_listing(out, book, a),
         named: a.named,
     }
 }

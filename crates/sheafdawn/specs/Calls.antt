@@ -1,4 +1,4 @@
--- What each C function answers and leaves behind its slices: document 01's answer, or 2^32 - 1 and every slice as it was, where a slice has a
+-- What each C function answers and leaves behind its slices: the operation's answer, or 2^32 - 1 and every slice as it was, where a slice has a
 -- wrong length. Assumes nothing.
 use mathlib.Core.Bool.{cond}
 use mathlib.Core.List.{List, [], _∷_}
@@ -7,11 +7,9 @@ use lib.Dec.{eqb}
 use lib.ListN.{length}
 use Rattle.fields.specs.Fields.{width}
 use Rattle.rating.specs.Rate.{rateOf}
-use Rattle.book_laws.specs.Format.{recordFields}
-use Rattle.book_laws.specs.Start.{Written, startOf}
-use Rattle.book_laws.specs.Append.{appendOf}
-use Rattle.book_laws.specs.Read.{readOf}
-use Rattle.book_laws.specs.Accept.{acceptOf}
+use Rattle.book_laws.specs.Layout.{recordFields}
+use Rattle.book_laws.specs.Start.{Written}
+use Rattle.book_laws.specs.Book.{layoutOf, startOf, appendOf, readOf, acceptOf}
 
 abbrev pub wrongLength : ℕ
 wrongLength = 4294967295
@@ -34,7 +32,7 @@ rateCall x out =
     cond (eqb (length x) width) (called 14 out (a .number) (a .rating ∷ a .sheet)) (call wrongLength out)
 
 unfoldable pub readCall : List ℕ → ℕ → ℕ → List ℕ → Call
-readCall b used index out = let f = readOf b used index in called recordFields out (f .number) (f .fields)
+readCall b used index out = let f = readOf b used index in called (recordFields (layoutOf b used)) out (f .number) (f .fields)
 
 -- k is the record that 23 names
 unfoldable pub acceptCall : List ℕ → ℕ → ℕ → List ℕ → Call

@@ -4,15 +4,17 @@ mod copy;
 
 ghost use mathlib.Core.Path.{_≡_};
 ghost use lib.ListN.{getD};
-ghost use Rattle.book_laws.specs.Accept.{Differs};
+ghost use Rattle.book_laws.specs.Book.{Differs};
 ghost use Rattle.sheafdawn.specs.Calls.{call, bookCall, rateCall, startCall, appendCall, readCall, acceptCall};
 use book::accept::accept;
 use book::append::append;
 use book::read::read;
 use book::start::start;
+use book_bytes::layout::RECORD_FIELDS;
 use copy::case_of;
 use copy::put_fields;
 use copy::put_sheet;
+use fields::WIDTH;
 use rating::rate::rate;
 
 pub const WRONG_LENGTH: u32 = 4294967295;
@@ -22,7 +24,7 @@ pub const WRONG_LENGTH: u32 = 4294967295;
 pub extern "C" fn sheafdawn_rate(case: &[u32], out: &mut [u64]) -> u32
     ensures { λ r. ⌜ call r (now (out .exit)) ≡ rateCall (now (case .entry)) (now (out .entry)) ⌝ }
 {
-    if case.len() != 26 {
+    if case.len() != WIDTH {
         return WRONG_LENGTH;
     }
     if out.len() != 14 {
@@ -59,7 +61,7 @@ pub extern "C" fn sheafdawn_append(
     ensures { λ r. ⌜ bookCall r (now (buffer .exit)) (now (out .exit))
         ≡ appendCall (now (buffer .entry)) used (now (case .entry)) (now (out .entry)) ⌝ }
 {
-    if case.len() != 26 {
+    if case.len() != WIDTH {
         return WRONG_LENGTH;
     }
     if out.len() != 1 {
@@ -75,7 +77,7 @@ pub extern "C" fn sheafdawn_append(
 pub extern "C" fn sheafdawn_read(buffer: &[u8], used: usize, index: usize, out: &mut [u32]) -> u32
     ensures { λ r. ⌜ call r (now (out .exit)) ≡ readCall (now (buffer .entry)) used index (now (out .entry)) ⌝ }
 {
-    if out.len() != 28 {
+    if out.len() != RECORD_FIELDS {
         return WRONG_LENGTH;
     }
     let found = read(buffer, used, index);

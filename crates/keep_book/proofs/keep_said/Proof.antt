@@ -7,7 +7,7 @@ use borrow.Author.Needs.{needs}
 use borrow.Author.Tests.{ne-eqb}
 use lib.Dec.{eqb}
 use Rattle.keep_book.specs.Keeping.{unchanged, keepFor}
-use Rattle.book_laws.specs.Append.{appendOf}
+use Rattle.book_laws.specs.Book.{appendOf}
 use Rattle.book_laws.specs.Start.{Written}
 use Rattle.text.specs.declared.line.Read.{Read}
 use Rattle.text.specs.Answer.{saidOf}

@@ -7,8 +7,9 @@ use lib.ListN.{length}
 use Rattle.book.specs.declared.accept.Acceptance.{Acceptance}
 use Rattle.book.specs.Answers.{acceptanceOf}
 use Rattle.book_laws.specs.Accept as Paper
-use Rattle.book_laws.specs.Accept.{acceptOf}
-use Rattle.book_laws.specs.AcceptLaws.{Counted, count-within}
+use Rattle.book_laws.specs.Book.{acceptOf}
+use Rattle.book_laws.specs.Laws.Accept.{Counted, count-within}
+use Rattle.book_laws.specs.Layout.{rbk1}
 use Rattle.splice.specs.Splice.{splice}
 use Rattle.splice.specs.Laws.{splice-length}
 use Rattle.list_text.specs.Listing.{listingFor, listingOf}
@@ -16,8 +17,8 @@ use borrow.Author.Needs.{needs}
 use Rattle.list_text.proofs.list_book.Statement.{statement}
 use Rattle.list_text.proofs.list_book.Tie as tie
 
-room : (b : List ℕ) (used : ℕ) {a : Acceptance} → acceptanceOf a ≡ acceptOf b used (a .named) → Counted b (a .count)
-room b used {a} is = subst (λ (n : ℕ). Counted b n) (sym (ap (λ (p : Paper.Acceptance). p .count) is)) (count-within b used (a .named))
+room : (b : List ℕ) (used : ℕ) {a : Acceptance} → acceptanceOf a ≡ acceptOf b used (a .named) → Counted rbk1 b (acceptanceOf a)
+room b used {a} is = subst (Counted rbk1 b) (sym is) (count-within rbk1 b used (a .named))
 
 -- a listing that has room leaves the buffer as long
 as-long : (l vs : List ℕ) {m : List ℕ} {r : ℕ} → (r ≡ length vs) × (m ≡ splice l 0 vs) → r ≤ length l → length m ≡ length l
@@ -25,17 +26,17 @@ as-long l vs put h = ap length (put .1) ∙ splice-length l 0 vs (omega (arith, 
 
 listed :
     (b : List ℕ) (used : ℕ) (l : List ℕ) {a : Acceptance} {m : List ℕ} {r : ℕ} → acceptanceOf a ≡ acceptOf b used (a .named) →
-    (r ≡ length (listingFor b used (acceptanceOf a))) × (m ≡ splice l 0 (listingFor b used (acceptanceOf a))) →
+    (r ≡ length (listingFor rbk1 b (acceptanceOf a))) × (m ≡ splice l 0 (listingFor rbk1 b (acceptanceOf a))) →
     (r ≡ length (listingOf b used (a .named))) × (m ≡ splice l 0 (listingOf b used (a .named)))
 unfolding listingOf
 listed b used l {a} is put =
-    let same = ap (listingFor b used) is in (put .0 ∙ ap length same, put .1 ∙ ap (splice l 0) same)
+    let same = ap (listingFor rbk1 b) is in (put .0 ∙ ap length same, put .1 ∙ ap (splice l 0) same)
 
 put-listing-requires : tie.Need-put-listing-requires
 put-listing-requires c κs =
     let accepted = c .before .before in
     let counted = room _ _ (accepted .accept .ensures .0) in
-    (omega (arith, counted .within), counted .most)
+    (omega (arith, counted .within), counted .within, counted .most)
 
 returns : tie.Need-returns
 returns c =

@@ -8,6 +8,7 @@ use lib.ListN.{length}
 use borrow.Author.Tests.{eq-eqb, ne-eqb}
 use Rattle.book.specs.declared.accept.Acceptance.{Acceptance}
 use Rattle.book.specs.Answers.{acceptanceOf}
+use Rattle.book_laws.specs.Layout.{rbk1}
 use Rattle.splice.specs.Splice.{splice}
 use Rattle.splice.specs.Put.{Put, put-as, put-then}
 use Rattle.list_text.specs.Listing.{recordLines, bookLine, refusedLine, disagreesLine, listingFor}
@@ -15,16 +16,16 @@ use borrow.Author.Needs.{needs}
 use Rattle.list_text.proofs.put_listing.Statement.{statement}
 use Rattle.list_text.proofs.put_listing.Tie as tie
 
-module _ (b : List ℕ) (used : ℕ) (a : Acceptance) where
-  of-book : a .number ≡ 0 → bookLine (a .count) ++ recordLines b used (a .count) ≡ listingFor b used (acceptanceOf a)
+module _ (b : List ℕ) (a : Acceptance) where
+  of-book : a .number ≡ 0 → bookLine (a .count) ++ recordLines rbk1 b (a .note) (a .count) ≡ listingFor rbk1 b (acceptanceOf a)
   unfolding listingFor
   of-book none = simp (eq-eqb _ 0 none)
 
-  of-23 : a .number ≡ 23 → disagreesLine (a .named) ≡ listingFor b used (acceptanceOf a)
+  of-23 : a .number ≡ 23 → disagreesLine (a .named) ≡ listingFor rbk1 b (acceptanceOf a)
   unfolding listingFor
   of-23 is-23 = rw is-23 refl
 
-  of-refusal : (a .number ≡ 0 → ⊥) → (a .number ≡ 23 → ⊥) → refusedLine (a .number) ≡ listingFor b used (acceptanceOf a)
+  of-refusal : (a .number ≡ 0 → ⊥) → (a .number ≡ 23 → ⊥) → refusedLine (a .number) ≡ listingFor rbk1 b (acceptanceOf a)
   unfolding listingFor
   of-refusal given not-23 = simp (ne-eqb _ 0 given, ne-eqb _ 23 not-23)
 
@@ -40,7 +41,7 @@ returns c =
     let start = line .before .before .before .before .before .before .before in
     let a = start .args .a in
     let book = put-then _ _ (bookLine (a .count)) _ (omega arith) (line .put-line .ensures .0) (records .put-records .ensures .0) in (
-      at-front _ (of-book _ _ a (line .before .before .before .if1 .taken)) book,
+      at-front _ (of-book _ a (line .before .before .before .if1 .taken)) book,
       omega (arith, line .put-line .ensures .1, records .put-records .ensures .1),
     )
 
@@ -49,14 +50,14 @@ unfolding disagreesLine
 returns-2 c =
     let line = c .before .before in
     let tested = line .before .before .before in
-    (at-front _ (of-23 _ _ _ (tested .if2 .taken)) (line .put-line2 .ensures .0), omega (arith, line .put-line2 .ensures .1))
+    (at-front _ (of-23 _ _ (tested .if2 .taken)) (line .put-line2 .ensures .0), omega (arith, line .put-line2 .ensures .1))
 
 returns-3 : tie.Need-returns-3
 unfolding refusedLine
 returns-3 c =
     let line = c .before .before in
     let tested = line .before .before .before .before in (
-      at-front _ (of-refusal _ _ _ (tested .before .before .if1 .left) (tested .if2 .left)) (line .put-line3 .ensures .0),
+      at-front _ (of-refusal _ _ (tested .before .before .if1 .left) (tested .if2 .left)) (line .put-line3 .ensures .0),
       omega (arith, line .put-line3 .ensures .1),
     )
 

@@ -1,11 +1,9 @@
--- `list_text::put_record` meets its contract: the record that is read gives the answer and the rating. Assumes nothing.
+-- `list_text::put_record` meets its contract: the line has the answer and the rating that stand in the record. Assumes nothing.
 use mathlib.Core.List.{List, [], _∷_, _++_}
-use mathlib.Core.Path.{_≡_, ap, ap₂, _∙_}
+use mathlib.Core.Path.{_≡_, ap₂}
 use Prim.Native.Nat.{ℕ, _+_}
-use lib.ListN.{getD}
-use Rattle.book.specs.declared.read.Record.{Record}
-use Rattle.book.specs.Answers.{fieldsRead}
-use Rattle.book_laws.specs.Read.{Fields, readOf}
+use Rattle.book_laws.specs.Layout.{rbk1}
+use Rattle.book_laws.specs.Record.{placeFrom, answerAt, ratingAt}
 use Rattle.splice.specs.Put.{put-as}
 use Rattle.decimals.specs.Decimal.{written}
 use Rattle.list_text.specs.Listing.{recordLine}
@@ -14,34 +12,30 @@ use Rattle.list_text.proofs.put_record.Statement.{statement}
 use Rattle.list_text.proofs.put_record.Tie as tie
 
 line-is :
-    (b : List ℕ) (used i : ℕ) {r : Record} {answer rating : ℕ} → fieldsRead r ≡ readOf b used i → answer ≡ getD (r .fields) 26 0 →
-    rating ≡ getD (r .fields) 27 0 → written ((i + 1) ∷ answer ∷ rating ∷ []) ++ (10 ∷ []) ≡ recordLine b used i
+    (b : List ℕ) (first i : ℕ) {answer rating : ℕ} → answer ≡ answerAt rbk1 b (placeFrom rbk1 first i) →
+    rating ≡ ratingAt rbk1 b (placeFrom rbk1 first i) →
+    written ((i + 1) ∷ answer ∷ rating ∷ []) ++ (10 ∷ []) ≡ recordLine rbk1 b first i
 unfolding recordLine
-line-is b used i read answer-is rating-is =
-    let fields-are = ap (λ (f : Fields). f .fields) read in
-    ap₂ (λ (a m : ℕ). written ((i + 1) ∷ a ∷ m ∷ []) ++ (10 ∷ [])) (answer-is ∙ ap (λ (f : List ℕ). getD f 26 0) fields-are)
-    (rating-is ∙ ap (λ (f : List ℕ). getD f 27 0) fields-are)
+line-is b first i answer-is rating-is = ap₂ (λ (a m : ℕ). written ((i + 1) ∷ a ∷ m ∷ []) ++ (10 ∷ [])) answer-is rating-is
 
 returns : tie.Need-returns
 returns c =
     let put = c .before .before in
     let second = put .before in
     let first = second .before in
-    let found = first .before .before .before in (
-      put-as _ _ (line-is _ _ _ (found .read .ensures) (first .long .ensures) (second .long2 .ensures)) (put .put-numbers .ensures .0),
-      put .put-numbers .ensures .1,
-    )
+    (put-as _ _ (line-is _ _ _ (first .answer-at .ensures) (second .rating-at .ensures)) (put .put-numbers .ensures .0), put .put-numbers .ensures .1)
 
 pub put-record-spec : {M : Type 1} → statement M
 put-record-spec =
     tie.close
     (tie.spec
-    (λ c κs. search needs)
     (λ c. search needs)
     (λ c. search needs)
+    (λ c. search needs)
     (λ c κs. search needs)
     (λ c. search needs)
     (λ c κs. search needs)
+    (λ c. search needs)
     (λ c κs. search needs)
     (λ c. search needs)
     returns)

@@ -6,27 +6,29 @@ use Prim.Native.Nat.{ℕ, _+_, _*_, _-_, _≤_}
 use native.Mathlib.Numerals.{add-one}
 use native.Mathlib.Omega.{arith}
 use lib.ListN.{length}
+use Rattle.book_laws.specs.Layout.{rbk1}
 use Rattle.splice.specs.Put.{Put, put-as, put-nothing, put-then}
 use Rattle.list_text.specs.Listing.{recordLine, recordLines}
 use Rattle.list_text.proofs.put_records.Statement.{statement}
 use Rattle.list_text.proofs.put_records.Tie as tie
 
-one-more : (b : List ℕ) (used i : ℕ) → recordLines b used i ++ recordLine b used i ≡ recordLines b used (i + 1)
+one-more : (b : List ℕ) (first i : ℕ) → recordLines rbk1 b first i ++ recordLine rbk1 b first i ≡ recordLines rbk1 b first (i + 1)
 unfolding recordLines
-one-more b used i = ap (recordLines b used) (sym (add-one i))
+one-more b first i = ap (recordLines rbk1 b first) (sym (add-one i))
 
 abbrev Inv-loop : tie.InvT-loop
-Inv-loop out₀ at book used count end₀ i₀ out end i = (i ≤ count) × (end ≤ at + 63 * i) × (length out ≡ length out₀) × Put out₀ at (recordLines book used i) out end
+Inv-loop out₀ at book first count end₀ i₀ out end i =
+    (i ≤ count) × (end ≤ at + 63 * i) × (length out ≡ length out₀) × Put out₀ at (recordLines rbk1 book first i) out end
 
 abbrev μ-loop : tie.MeasureT-loop
-μ-loop out₀ at book used count end₀ i₀ out end i = count - i
+μ-loop out₀ at book first count end₀ i₀ out end i = count - i
 
 loop-holds : tie.Need-loop-holds Inv-loop μ-loop
 unfolding recordLines
 loop-holds c = (omega arith, omega arith, refl, put-nothing _ _)
 
 put-record-requires : tie.Need-put-record-requires Inv-loop μ-loop
-put-record-requires c κs = (omega arith, omega arith)
+put-record-requires c κs = (omega arith, omega arith, omega arith)
 
 loop-again : tie.Need-loop-again Inv-loop μ-loop
 loop-again c =
@@ -42,7 +44,7 @@ returns : tie.Need-returns Inv-loop μ-loop
 returns c =
     let at-loop = c .before .loop in
     let all : at-loop .i ≡ c .before .before .before .before .args .count = omega arith in
-    (put-as _ _ (ap (recordLines _ _) all) (at-loop .inv .3), omega (arith, all))
+    (put-as _ _ (ap (recordLines rbk1 _ _) all) (at-loop .inv .3), omega (arith, all))
 
 pub put-records-spec : {M : Type 1} → statement M
 put-records-spec =

@@ -6,7 +6,7 @@ use native.Mathlib.Omega.{arith}
 use lib.ListN.{length, getD}
 use denote.Ref.{now}
 use borrow.Author.Tests.{eq-eqb, ne-eqb}
-use Rattle.book_laws.specs.Accept.{acceptOf, Differs}
+use Rattle.book_laws.specs.Book.{acceptOf, Differs}
 use Rattle.book.specs.declared.accept.Acceptance.{Acceptance}
 use Rattle.book.specs.Answers.{acceptanceOf}
 use Rattle.sheafdawn.specs.Calls.{call, called, acceptCall}

@@ -5,7 +5,7 @@ use Prim.Native.Nat.{ℕ}
 use lib.ListN.{length}
 use denote.Ref.{now}
 use borrow.Author.Tests.{eq-eqb, ne-eqb}
-use Rattle.book_laws.specs.Append.{appendOf}
+use Rattle.book_laws.specs.Book.{appendOf}
 use Rattle.sheafdawn.specs.Calls.{writtenCall, appendCall}
 use Rattle.sheafdawn.proofs.Outs.{one-place, written}
 use borrow.Author.Needs.{needs}

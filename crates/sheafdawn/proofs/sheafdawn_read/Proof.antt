@@ -4,8 +4,9 @@ use mathlib.Core.Path.{_≡_, sym}
 use Prim.Native.Nat.{ℕ}
 use lib.ListN.{length}
 use borrow.Author.Tests.{eq-eqb, ne-eqb}
-use Rattle.book_laws.specs.Read.{readOf}
-use Rattle.book.specs.declared.read.Record.{Record}
+use Rattle.book_laws.specs.Layout.{rbk1, recordFields}
+use Rattle.book_laws.specs.Book.{readOf}
+use Rattle.book.specs.declared.read.Found.{Found}
 use Rattle.book.specs.Answers.{fieldsRead}
 use Rattle.sheafdawn.specs.Calls.{call, called, readCall}
 use borrow.Author.Needs.{needs}
@@ -13,10 +14,10 @@ use Rattle.sheafdawn.proofs.sheafdawn_read.Statement.{statement}
 use Rattle.sheafdawn.proofs.sheafdawn_read.Tie as tie
 
 called-right :
-    (b : List ℕ) (used index : ℕ) (out : List ℕ) {r : Record} {m : List ℕ} → length out ≡ 28 → fieldsRead r ≡ readOf b used index →
-    m ≡ r .fields → call (r .number) m ≡ readCall b used index out
+    (b : List ℕ) (used index : ℕ) (out : List ℕ) {r : Found} {m : List ℕ} → length out ≡ recordFields rbk1 →
+    fieldsRead r ≡ readOf b used index → m ≡ r .fields → call (r .number) m ≡ readCall b used index out
 unfolding readCall called
-called-right b used index out is-28 found wrote = rw (wrote, ← found) (sym (simp (eq-eqb _ _ is-28)))
+called-right b used index out as-long found wrote = rw (wrote, ← found) (sym (simp (eq-eqb _ _ as-long)))
 
 returns : tie.Need-returns
 unfolding readCall called

@@ -11,11 +11,12 @@ use lib.ListN.{length}
 use denote.Ref.{now}
 use borrow.Author.Tests.{lt-ltb, le-ltb, lt-leb, ltb-true, ltb-false, leb-false}
 use Rattle.splice.specs.Splice.{splice}
+use Rattle.book_laws.specs.Layout.{rbk1, recordLength, trailerLength}
 use Rattle.book_laws.specs.Format.{recordBytes, trailerBytes}
-use Rattle.book_laws.specs.Trailer.{describe}
-use Rattle.book_laws.specs.TrailerLaws.{onBook-on, onBook-refused}
+use Rattle.book_laws.specs.Book.{describe, appendOf}
+use Rattle.book_laws.specs.Laws.Trailer.{onBook-on, onBook-refused}
 use Rattle.book_laws.specs.Start.{Written, unwritten}
-use Rattle.book_laws.specs.Append.{appendAfter, appendOf}
+use Rattle.book_laws.specs.Append.{appendAfter, appendIn}
 use Rattle.book_bytes.specs.declared.trailer.Description as Code
 use Rattle.book_bytes.specs.Answers.{descriptionOf}
 use Rattle.book.proofs.Described.{of-book}
@@ -25,25 +26,25 @@ use Rattle.book.proofs.append.append.Tie as tie
 
 -- what `own_refusal` answers
 abbrev ownOf : ℕ → ℕ → ℕ
-ownOf count left = cond (leb 100000 count) 25 (cond (ltb left 112) 24 0)
+ownOf count left = cond (leb (rbk1 .most) count) 25 (cond (ltb left (recordLength rbk1)) 24 0)
 
-own-none : (count left : ℕ) → ownOf count left ≡ 0 → (count < 100000) × (112 ≤ left)
-own-none count left e = by-tests (leb 100000 count) (ltb left 112) refl refl e
+own-none : (count left : ℕ) → ownOf count left ≡ 0 → (count < rbk1 .most) × (recordLength rbk1 ≤ left)
+own-none count left e = by-tests (leb (rbk1 .most) count) (ltb left (recordLength rbk1)) refl refl e
   where
     by-tests :
-        (full short : Bool) → leb 100000 count ≡ full → ltb left 112 ≡ short → _≡_ {A = ℕ} (cond full 25 (cond short 24 0)) 0 →
-        (count < 100000) × (112 ≤ left)
+        (full short : Bool) → leb (rbk1 .most) count ≡ full → ltb left (recordLength rbk1) ≡ short → _≡_ {A = ℕ} (cond full 25 (cond short 24 0)) 0 →
+        (count < rbk1 .most) × (recordLength rbk1 ≤ left)
     by-tests true short f s e = absurd (suc-ne-zero 24 e)
     by-tests false true f s e = absurd (suc-ne-zero 23 e)
-    by-tests false false f s e = (leb-false 100000 count f, ltb-false left 112 s)
+    by-tests false false f s e = (leb-false (rbk1 .most) count f, ltb-false left (recordLength rbk1) s)
 
--- 112 bytes are left where 112 more fit
-same-room : (n used : ℕ) → used ≤ n → ltb (n - used) 112 ≡ ltb n (used + 112)
-same-room n used h = by-test (ltb n (used + 112)) refl
+-- a record's bytes are left where as many more fit
+same-room : (n used : ℕ) → used ≤ n → ltb (n - used) (recordLength rbk1) ≡ ltb n (used + recordLength rbk1)
+same-room n used h = by-test (ltb n (used + recordLength rbk1)) refl
   where
-    by-test : (short : Bool) → ltb n (used + 112) ≡ short → ltb (n - used) 112 ≡ ltb n (used + 112)
-    by-test true t = lt-ltb (n - used) 112 (omega (arith, ltb-true n (used + 112) t)) ∙ sym t
-    by-test false t = le-ltb (n - used) 112 (omega (arith, ltb-false n (used + 112) t)) ∙ sym t
+    by-test : (short : Bool) → ltb n (used + recordLength rbk1) ≡ short → ltb (n - used) (recordLength rbk1) ≡ ltb n (used + recordLength rbk1)
+    by-test true t = lt-ltb (n - used) (recordLength rbk1) (omega (arith, ltb-true n (used + recordLength rbk1) t)) ∙ sym t
+    by-test false t = le-ltb (n - used) (recordLength rbk1) (omega (arith, ltb-false n (used + recordLength rbk1) t)) ∙ sym t
 
 -- one chain of tests gives the number and the answer
 chosen :
@@ -55,29 +56,29 @@ chosen false false b rest given = absurd (given refl)
 
 module _ (b : List ℕ) (used : ℕ) (x : List ℕ) {d : Code.Description} (is : descriptionOf d ≡ describe b used) where
   by-trailer : (d .number ≡ 0 → ⊥) → appendOf b used x ≡ unwritten (d .number) b
-  unfolding appendOf
-  by-trailer given = onBook-refused b used _ _ is given
+  unfolding appendIn
+  by-trailer given = onBook-refused rbk1 b used _ _ is given
 
-  on : d .number ≡ 0 → appendOf b used x ≡ appendAfter (descriptionOf d) b used x
-  unfolding appendOf
-  on none = onBook-on b used _ _ is none
+  on : d .number ≡ 0 → appendOf b used x ≡ appendAfter rbk1 (descriptionOf d) b used x
+  unfolding appendIn
+  on none = onBook-on rbk1 b used _ _ is none
 
   by-own :
       {r : ℕ} → d .number ≡ 0 → used ≤ length b → r ≡ ownOf (d .count) (length b - used) → (r ≡ 0 → ⊥) →
       appendOf b used x ≡ unwritten r b
   unfolding appendAfter
   by-own {r} none within own-is given =
-      let number-is : r ≡ cond (leb 100000 (d .count)) 25 (cond (ltb (length b) (used + 112)) 24 0) =
-      own-is ∙ ap (λ (short : Bool). cond (leb 100000 (d .count)) 25 (cond short 24 0)) (same-room (length b) used within)
+      let number-is : r ≡ cond (leb (rbk1 .most) (d .count)) 25 (cond (ltb (length b) (used + recordLength rbk1)) 24 0) =
+      own-is ∙ ap (λ (short : Bool). cond (leb (rbk1 .most) (d .count)) 25 (cond short 24 0)) (same-room (length b) used within)
       in
       on none
-      ∙ chosen (leb 100000 (d .count)) (ltb (length b) (used + 112)) b _ (λ zero-is. given (number-is ∙ zero-is))
+      ∙ chosen (leb (rbk1 .most) (d .count)) (ltb (length b) (used + recordLength rbk1)) b _ (λ zero-is. given (number-is ∙ zero-is))
       ∙ ap (λ (n : ℕ). unwritten n b) (sym number-is)
 
   appended :
-      {m : List ℕ} → d .number ≡ 0 → d .count < 100000 → used + 112 ≤ length b →
-      m ≡ splice b (used - 16) (recordBytes x ++ trailerBytes (d .count + 1)) →
-      appendOf b used x ≡ record { number = 0; used = used + 112; bytes = m }
+      {m : List ℕ} → d .number ≡ 0 → d .count < rbk1 .most → used + recordLength rbk1 ≤ length b →
+      m ≡ splice b (used - trailerLength rbk1) (recordBytes rbk1 x ++ trailerBytes rbk1 (d .count + 1)) →
+      appendOf b used x ≡ record { number = 0; used = used + recordLength rbk1; bytes = m }
   unfolding appendAfter
   appended none few fits put = on none ∙ rw put (simp (lt-leb _ _ few, le-ltb _ _ fits))
 
@@ -106,8 +107,8 @@ room :
     (c : tie.After-struct-known2) →
     let own = c .before .before .before in
     let told = own .before .before .before in
-    (told .describe-book .result .count < 100000)
-    × (112 ≤ length (now (told .before .before .before .args .buffer)) - told .before .before .before .args .used)
+    (told .describe-book .result .count < rbk1 .most)
+    × (recordLength rbk1 ≤ length (now (told .before .before .before .args .buffer)) - told .before .before .before .args .used)
 room c = let own = c .before .before .before in own-none _ _ (sym (own .own-refusal .ensures) ∙ c .before .before .if2 .left)
 
 cast-put-record : tie.Need-cast-put-record

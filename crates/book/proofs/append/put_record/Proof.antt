@@ -8,14 +8,16 @@ use Rattle.splice.specs.Splice.{splice}
 use Rattle.splice.specs.Laws.{splice-after}
 use Rattle.rating.specs.Rate.{Answer, answerOf, rateOf}
 use Rattle.rating.specs.declared.rate.Rated.{Rated}
-use Rattle.book_laws.specs.Format.{wordsBytes, fieldsOf, recordBytes, trailerBytes}
-use Rattle.book_laws.specs.FormatLaws.{wordsBytes-length}
+use Rattle.book_laws.specs.Bytes.{wordsBytes}
+use Rattle.book_laws.specs.Layout.{rbk1, recordFields, recordLength}
+use Rattle.book_laws.specs.Format.{fieldsOf, recordBytes, trailerBytes}
+use Rattle.book_laws.specs.Laws.Bytes.{wordsBytes-length}
 use borrow.Author.Needs.{needs}
 use Rattle.book.proofs.append.put_record.Statement.{statement}
 use Rattle.book.proofs.append.put_record.Tie as tie
 
 fields-are :
-    (x : List ℕ) {r : Rated} {f : List ℕ} → answerOf r ≡ rateOf x → f ≡ x ++ (r .answer ∷ r .rating ∷ []) → wordsBytes f ≡ recordBytes x
+    (x : List ℕ) {r : Rated} {f : List ℕ} → answerOf r ≡ rateOf x → f ≡ x ++ (r .answer ∷ r .rating ∷ []) → wordsBytes f ≡ recordBytes rbk1 x
 unfolding recordBytes fieldsOf
 fields-are x {r} {f} rated made =
     let number = ap (λ (a : Answer). a .number) rated in
@@ -23,18 +25,17 @@ fields-are x {r} {f} rated made =
     ap wordsBytes (made ∙ ap₂ (λ (n i : ℕ). x ++ (n ∷ i ∷ [])) number rating)
 
 record-and-trailer :
-    (l : List ℕ) (at : ℕ) (x : List ℕ) (count : ℕ) {r : Rated} {f m n : List ℕ} → at ≤ length l → length f ≡ 28 →
+    (l : List ℕ) (at : ℕ) (x : List ℕ) (count : ℕ) {r : Rated} {f m n : List ℕ} → at ≤ length l → length f ≡ recordFields rbk1 →
     answerOf r ≡ rateOf x → f ≡ x ++ (r .answer ∷ r .rating ∷ []) → m ≡ splice l at (wordsBytes f) →
-    n ≡ splice m (at + 112) (trailerBytes count) → n ≡ splice l at (recordBytes x ++ trailerBytes count)
+    n ≡ splice m (at + recordLength rbk1) (trailerBytes rbk1 count) → n ≡ splice l at (recordBytes rbk1 x ++ trailerBytes rbk1 count)
 record-and-trailer l at x count {r} {f} {m} {n} h size rated made put-fields put-trailer =
-    let place : at + 112 ≡ at + length (wordsBytes f) =
-    omega (arith, wordsBytes-length f)
-    in
+    let trailer = trailerBytes rbk1 count in
+    let place : at + recordLength rbk1 ≡ at + length (wordsBytes f) = omega (arith, wordsBytes-length f) in
     put-trailer
-    ∙ ap (λ (t : List ℕ). splice t (at + 112) (trailerBytes count)) put-fields
-    ∙ ap (λ (k : ℕ). splice (splice l at (wordsBytes f)) k (trailerBytes count)) place
-    ∙ splice-after l at (wordsBytes f) (trailerBytes count) h
-    ∙ ap (λ (u : List ℕ). splice l at (u ++ trailerBytes count)) (fields-are x rated made)
+    ∙ ap (λ (t : List ℕ). splice t (at + recordLength rbk1) trailer) put-fields
+    ∙ ap (λ (k : ℕ). splice (splice l at (wordsBytes f)) k trailer) place
+    ∙ splice-after l at (wordsBytes f) trailer h
+    ∙ ap (λ (u : List ℕ). splice l at (u ++ trailer)) (fields-are x rated made)
 
 returns : tie.Need-returns
 returns c =
@@ -43,7 +44,8 @@ returns c =
     let made = fielded .before in
     let rated = made .before .before in
     let start = rated .before .before in
-    record-and-trailer _ _ (start .args .x) _ (omega (arith, start .pre)) (made .fields-of .ensures .1) (rated .rate .ensures) (made .fields-of .ensures .0)
+    record-and-trailer _ _ (start .args .x) _ (omega (arith, start .pre)) (made .fields-of .ensures .1) (rated .rate .ensures)
+    (made .fields-of .ensures .0)
     (fielded .put-fields .ensures)
     (trailed .put-trailer .ensures)
 

@@ -7,20 +7,22 @@ use native.Mathlib.Omega.{arith}
 use lib.ListN.{length}
 use borrow.Author.Tests.{lt-ltb, le-ltb}
 use Rattle.splice.specs.Splice.{splice}
+use Rattle.book_laws.specs.Layout.{rbk1, trailerLength}
 use Rattle.book_laws.specs.Format.{trailerBytes}
-use Rattle.book_laws.specs.Start.{unwritten, startOf}
+use Rattle.book_laws.specs.Start.{unwritten, startIn}
+use Rattle.book_laws.specs.Book.{startOf}
 use borrow.Author.Needs.{needs}
 use Rattle.book.proofs.start.start.Statement.{statement}
 use Rattle.book.proofs.start.start.Tie as tie
 
-refused : (b : List ℕ) (note : ℕ) → length b < note + 16 → startOf b note ≡ unwritten 24 b
-unfolding startOf
+refused : (b : List ℕ) (note : ℕ) → length b < note + trailerLength rbk1 → startOf b note ≡ unwritten 24 b
+unfolding startIn
 refused b note h = simp (lt-ltb _ _ h)
 
 started :
-    (b : List ℕ) (note : ℕ) {m : List ℕ} → note + 16 ≤ length b → m ≡ splice b note (trailerBytes 0) →
-    startOf b note ≡ record { number = 0; used = note + 16; bytes = m }
-unfolding startOf
+    (b : List ℕ) (note : ℕ) {m : List ℕ} → note + trailerLength rbk1 ≤ length b → m ≡ splice b note (trailerBytes rbk1 0) →
+    startOf b note ≡ record { number = 0; used = note + trailerLength rbk1; bytes = m }
+unfolding startIn
 started b note {m} h put = rw (put) (simp (le-ltb _ _ h))
 
 returns : tie.Need-returns

@@ -6,7 +6,8 @@ use Prim.Native.Nat.{ℕ, _+_}
 use native.Mathlib.Omega.{arith}
 use lib.Dec.{eqb}
 use lib.ListN.{getD}
-use Rattle.book_laws.specs.Format.{mark, stands}
+use Rattle.book_laws.specs.Layout.{rbk1}
+use Rattle.book_laws.specs.Bytes.{stands}
 use borrow.Author.Needs.{needs}
 use Rattle.book_bytes.proofs.mark.has_mark.Statement.{statement}
 use Rattle.book_bytes.proofs.mark.has_mark.Tie as tie
@@ -20,7 +21,7 @@ all-four true true true true = refl
 
 compared :
     (b : List ℕ) (at : ℕ) →
-    eqb (getD b at 0) 82 && eqb (getD b (at + 1) 0) 66 && eqb (getD b (at + 2) 0) 75 && eqb (getD b (at + 3) 0) 49 ≡ stands mark b at
+    eqb (getD b at 0) 82 && eqb (getD b (at + 1) 0) 66 && eqb (getD b (at + 2) 0) 75 && eqb (getD b (at + 3) 0) 49 ≡ stands (rbk1 .mark) b at
 unfolding stands
 compared b at =
     let two : at + 1 + 1 ≡ at + 2 = omega arith in

@@ -8,8 +8,8 @@ use lib.ListN.{length, getD, take}
 use lib.Seq.{length-take-le, take-all}
 use Rattle.splice.specs.Splice.{splice}
 use Rattle.splice.specs.Laws.{splice-nothing, splice-after}
-use Rattle.book_laws.specs.Format.{wordBytes, wordsBytes}
-use Rattle.book_laws.specs.FormatLaws.{wordsBytes-length, wordsBytes-next}
+use Rattle.book_laws.specs.Bytes.{wordBytes, wordsBytes}
+use Rattle.book_laws.specs.Laws.Bytes.{wordsBytes-length, wordsBytes-next}
 use Rattle.book_bytes.proofs.record.put_fields.Statement.{statement}
 use Rattle.book_bytes.proofs.record.put_fields.Tie as tie
 

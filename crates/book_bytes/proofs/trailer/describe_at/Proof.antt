@@ -4,25 +4,26 @@ use mathlib.Core.List.{List}
 use mathlib.Core.Path.{_≡_, sym, _∙_}
 use Prim.Native.Nat.{ℕ, _+_, _-_}
 use borrow.Author.Tests.{not-true, not-false}
-use Rattle.book_laws.specs.Format.{wordAt, mark, stands}
+use Rattle.book_laws.specs.Bytes.{wordAt, stands}
+use Rattle.book_laws.specs.Layout.{rbk1}
 use Rattle.book_laws.specs.Trailer.{undescribed, wrongTrailer, describeAt}
-use Rattle.book_laws.specs.TrailerLaws.{right}
+use Rattle.book_laws.specs.Laws.Trailer.{right}
 use borrow.Author.Needs.{needs}
 use Rattle.book_bytes.proofs.trailer.describe_at.Statement.{statement}
 use Rattle.book_bytes.proofs.trailer.describe_at.Tie as tie
 
-unmarked : (b : List ℕ) (at : ℕ) → stands mark b at ≡ false → describeAt b at ≡ undescribed 21
+unmarked : (b : List ℕ) (at : ℕ) → stands (rbk1 .mark) b at ≡ false → describeAt rbk1 b at ≡ undescribed 21
 unfolding describeAt
 unmarked b at other = simp other
 
 -- the fields as they were read, in the trailer's test
-module _ (b : List ℕ) (at : ℕ) {count distance size : ℕ} (marked : stands mark b at ≡ true) (count-is : count ≡ wordAt b (at + 4))
+module _ (b : List ℕ) (at : ℕ) {count distance size : ℕ} (marked : stands (rbk1 .mark) b at ≡ true) (count-is : count ≡ wordAt b (at + 4))
     (distance-is : distance ≡ wordAt b (at + 8)) (size-is : size ≡ wordAt b (at + 12)) where
-  wrong : wrongTrailer at count distance size ≡ true → describeAt b at ≡ undescribed 22
+  wrong : wrongTrailer rbk1 at count distance size ≡ true → describeAt rbk1 b at ≡ undescribed 22
   unfolding describeAt
   wrong test = rw (← count-is, ← distance-is, ← size-is) (simp (marked, test))
 
-  sound : wrongTrailer at count distance size ≡ false → describeAt b at ≡ record { number = 0; count = count; first = at - distance }
+  sound : wrongTrailer rbk1 at count distance size ≡ false → describeAt rbk1 b at ≡ record { number = 0; count = count; first = at - distance }
   unfolding describeAt
   sound test = rw (← count-is, ← distance-is, ← size-is) (simp (marked, test))
 
@@ -44,8 +45,8 @@ returns-2 c =
     (third .word-at3 .ensures)
     (sym (tested .wrong-trailer .ensures) ∙ c .before .if2 .taken))
 
-sub-t11 : tie.Need-sub-t11
-sub-t11 c = right _ _ _ _ (sym (c .before .wrong-trailer .ensures) ∙ c .if2 .left) .before
+sub-t9 : tie.Need-sub-t9
+sub-t9 c = right rbk1 _ _ _ _ (sym (c .before .wrong-trailer .ensures) ∙ c .if2 .left) .before
 
 returns-3 : tie.Need-returns-3
 returns-3 c =
@@ -69,13 +70,14 @@ describe-at-spec =
     (λ c. search needs)
     (λ c κs. search needs)
     (λ c. search needs)
-    (λ c κs. search needs)
     (λ c. search needs)
     (λ c κs. search needs)
+    (λ c. search needs)
+    (λ c. search needs)
+    (λ c κs. search needs)
+    (λ c. search needs)
     (λ c κs. search needs)
     (λ c κs. search needs)
     returns-2
-    (λ c. search needs)
-    (λ c. search needs)
-    sub-t11
+    sub-t9
     returns-3)

@@ -6,21 +6,27 @@ use native.Mathlib.Omega.{arith}
 use lib.ListN.{length}
 use Rattle.splice.specs.Splice.{splice}
 use Rattle.splice.specs.Put.{Put, put-then}
-use Rattle.book_laws.specs.Format.{wordBytes, wordsBytes, mark, trailerBytes}
+use Rattle.book_laws.specs.Bytes.{wordBytes}
+use Rattle.book_laws.specs.Laws.Bytes.{numberBytes-length}
+use Rattle.book_laws.specs.Layout.{rbk1, recordLength}
+use Rattle.book_laws.specs.Format.{trailerBytes}
 use borrow.Author.Needs.{needs}
 use Rattle.book_bytes.proofs.trailer.put_trailer.Statement.{statement}
 use Rattle.book_bytes.proofs.trailer.put_trailer.Tie as tie
 
 parts :
-    (l : List ℕ) (at count : ℕ) {a b d e : List ℕ} → at ≤ length l → a ≡ splice l at mark →
-    b ≡ splice a (at + 4) (wordBytes count) → d ≡ splice b (at + 8) (wordBytes (112 * count)) →
-    e ≡ splice d (at + 12) (wordBytes 112) → e ≡ splice l at (trailerBytes count)
-unfolding trailerBytes wordsBytes wordBytes
+    (l : List ℕ) (at count : ℕ) {a b d e : List ℕ} → at ≤ length l → a ≡ splice l at (rbk1 .mark) →
+    b ≡ splice a (at + 4) (wordBytes count) → d ≡ splice b (at + 8) (wordBytes (recordLength rbk1 * count)) →
+    e ≡ splice d (at + 12) (wordBytes (recordLength rbk1)) → e ≡ splice l at (trailerBytes rbk1 count)
+unfolding trailerBytes
 parts l at count {a} {b} {d} {e} h put-a put-b put-d put-e =
-    let marked : Put l at mark a (at + 4) = (refl, put-a) in
-    let counted : Put a (at + 4) (wordBytes count) b (at + 8) = (omega arith, put-b) in
-    let distant : Put b (at + 8) (wordBytes (112 * count)) d (at + 12) = (omega arith, put-d) in
-    let sized : Put d (at + 12) (wordBytes 112) e (at + 16) = (omega arith, put-e) in
+    let next : (n at to : ℕ) → at + 4 ≡ to → to ≡ at + length (wordBytes n) =
+    λ n at to there. omega (arith, numberBytes-length 4 n)
+    in
+    let marked : Put l at (rbk1 .mark) a (at + 4) = (refl, put-a) in
+    let counted : Put a (at + 4) (wordBytes count) b (at + 8) = (next count _ _ (omega arith), put-b) in
+    let distant : Put b (at + 8) (wordBytes (recordLength rbk1 * count)) d (at + 12) = (next _ _ _ (omega arith), put-d) in
+    let sized : Put d (at + 12) (wordBytes (recordLength rbk1)) e (at + 16) = (next (recordLength rbk1) _ _ (omega arith), put-e) in
     put-then l at _ _ h (put-then l at _ _ h (put-then l at _ _ h marked counted) distant) sized .1
 
 returns : tie.Need-returns
@@ -42,7 +48,9 @@ put-trailer-spec =
     (λ c κs. search needs)
     (λ c. search needs)
     (λ c. search needs)
+    (λ c. search needs)
     (λ c κs. search needs)
+    (λ c. search needs)
     (λ c. search needs)
     (λ c κs. search needs)
     (λ c. search needs)

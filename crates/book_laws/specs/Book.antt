@@ -1,0 +1,59 @@
+-- The operations on books. This is the one place that picks a layout: of a book, and of a new book. RBK1 is the only one. Assumes nothing.
+use mathlib.Core.List.{List}
+use Prim.Native.Nat.{ℕ}
+use Rattle.book_laws.specs.Layout.{Layout, rbk1}
+use Rattle.book_laws.specs.Trailer.{Description, describeIn, onBookIn}
+use Rattle.book_laws.specs.Record.{placeFrom}
+use Rattle.book_laws.specs.Start.{Written, startIn}
+use Rattle.book_laws.specs.Append.{appendIn}
+use Rattle.book_laws.specs.Read.{Fields, readIn}
+use Rattle.book_laws.specs.Accept.{Acceptance, acceptIn, DiffersIn}
+use Rattle.book_laws.specs.Build.{buildIn}
+use Rattle.book_laws.specs.Built.{builtIn, FitsIn, KeptIn}
+
+-- of the book in b
+abbrev pub layoutOf : List ℕ → ℕ → Layout
+layoutOf b used = rbk1
+
+abbrev pub newLayout : Layout
+newLayout = rbk1
+
+abbrev pub describe : List ℕ → ℕ → Description
+describe b used = describeIn (layoutOf b used) b used
+
+abbrev pub onBook : {A : Type 0} → List ℕ → ℕ → (ℕ → A) → (Description → A) → A
+onBook b used refuse go-on = onBookIn (layoutOf b used) b used refuse go-on
+
+abbrev pub startOf : List ℕ → ℕ → Written
+startOf b note = startIn newLayout b note
+
+abbrev pub appendOf : List ℕ → ℕ → List ℕ → Written
+appendOf b used x = appendIn newLayout b used x
+
+abbrev pub readOf : List ℕ → ℕ → ℕ → Fields
+readOf b used index = readIn (layoutOf b used) b used index
+
+-- k is the record that 23 names
+abbrev pub acceptOf : List ℕ → ℕ → ℕ → Acceptance
+acceptOf b used k = acceptIn (layoutOf b used) b used k
+
+abbrev pub Differs : List ℕ → ℕ → ℕ → Type 0
+Differs b used k = DiffersIn (layoutOf b used) b used k
+
+-- where record i of a book stands, from 0
+abbrev pub placeOf : List ℕ → ℕ → ℕ → ℕ
+placeOf b used i = placeFrom (layoutOf b used) (describe b used .first) i
+
+-- A fresh book with cases appended to it.
+
+abbrev pub build : List ℕ → ℕ → List (List ℕ) → Written
+build b note xs = buildIn newLayout b note xs
+
+abbrev pub built : List ℕ → ℕ → List (List ℕ) → Written
+built b note xs = builtIn newLayout b note xs
+
+abbrev pub Fits : List ℕ → ℕ → ℕ → Type 0
+Fits b note n = FitsIn newLayout b note n
+
+abbrev pub Kept : List ℕ → ℕ → List (List ℕ) → Written → Type 0
+Kept b note xs w = KeptIn newLayout b note xs w

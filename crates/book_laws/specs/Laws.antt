@@ -1,0 +1,14 @@
+-- What follows from the definitions of a book: writing and reading undo each other, what was appended reads back, an accepted book builds
+-- again to the same bytes, and demand 3 for each rated record of one. Assumes nothing.
+pub mod Bytes
+pub mod Lawful
+pub mod Trailer
+pub mod Record
+pub mod Accept
+pub mod Built
+pub mod Build
+pub mod ReadBack
+pub mod Rebuild
+pub mod Margin
+pub mod Demands
+pub mod Instances

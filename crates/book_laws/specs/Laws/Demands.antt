@@ -1,0 +1,38 @@
+-- Demand 2 for books of RBK1: what was built from cases reads back and is accepted, a book that fits is not refused, and an accepted book
+-- builds again to the same bytes. Each is the law of any lawful layout. Assumes nothing.
+use mathlib.Core.Bool.{true}
+use mathlib.Core.List.{List, _++_}
+use mathlib.Core.Path.{_≡_}
+use Prim.Native.Nat.{ℕ, _≤_}
+use lib.ListN.{length, take, drop}
+use Rattle.book_laws.specs.Bytes.{below}
+use Rattle.book_laws.specs.Record.{casesAt}
+use Rattle.book_laws.specs.Build.{allCases}
+use Rattle.book_laws.specs.Book.{layoutOf, newLayout, describe, acceptOf, build, built, Fits, Kept}
+use Rattle.book_laws.specs.Laws.Lawful.{rbk1-lawful}
+use Rattle.book_laws.specs.Laws.Build.{buildIn-fits}
+use Rattle.book_laws.specs.Laws.ReadBack.{keptIn}
+use Rattle.book_laws.specs.Laws.Rebuild.{rebuiltIn, rebuiltIn-whole}
+
+module _ (b : List ℕ) (note : ℕ) (xs : List (List ℕ)) (cases : allCases newLayout xs ≡ true) where
+  -- a book that fits is refused by neither 24 nor 25
+  pub build-fits : Fits b note (length xs) → build b note xs ≡ built b note xs
+  build-fits = buildIn-fits rbk1-lawful b note xs cases
+
+  pub kept : build b note xs .number ≡ 0 → Kept b note xs (build b note xs)
+  kept = keptIn rbk1-lawful b note xs cases
+
+module _ (b : List ℕ) (used k : ℕ) (bytes : below 256 b ≡ true) (none : acceptOf b used k .number ≡ 0) where
+  -- in a buffer that is long enough and has the note at its front; what stood behind stays
+  pub rebuilt :
+      let d = describe b used in
+      (c : List ℕ) → used ≤ length c → take (d .first) c ≡ take (d .first) b →
+      build c (d .first) (casesAt (layoutOf b used) b (d .first) (d .count)) ≡ record { number = 0; used = used; bytes = take used b ++ drop used c }
+  rebuilt = rebuiltIn rbk1-lawful b used k bytes none
+
+  -- in a buffer as long as the book
+  pub rebuilt-whole :
+      let d = describe b used in
+      (c : List ℕ) → length c ≡ used → take (d .first) c ≡ take (d .first) b →
+      build c (d .first) (casesAt (layoutOf b used) b (d .first) (d .count)) ≡ record { number = 0; used = used; bytes = take used b }
+  rebuilt-whole = rebuiltIn-whole rbk1-lawful b used k bytes none

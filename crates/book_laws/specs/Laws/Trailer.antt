@@ -1,0 +1,99 @@
+-- What a trailer that is not refused says: the places of the records, and the trailer's own numbers. Assumes nothing.
+use mathlib.Core.Bool.{Bool, true, false, cond, not}
+use mathlib.Core.List.{List}
+use mathlib.Core.Path.{_≡_, sym, ap, _∙_}
+use Prim.Native.Nat.{ℕ, _+_, _-_, _*_, _≤_}
+use native.Mathlib.Nat.{suc-ne-zero}
+use native.Mathlib.Omega.{arith}
+use lib.Dec.{eqb, ltb, lit≤}
+use lib.ListN.{length}
+use borrow.Author.Tests.{ltb-false, eqb-true, not-false, eq-eqb, ne-eqb}
+use Rattle.bools.specs.Tests.{neither, passed}
+use Rattle.book_laws.specs.Bytes.{stands}
+use Rattle.book_laws.specs.Layout.{Layout, recordLength, trailerLength}
+use Rattle.book_laws.specs.Format.{countAt, distanceAt, lengthAt}
+use Rattle.book_laws.specs.Trailer.{Description, undescribed, wrongTrailer, describeAt, describeIn, onBookIn}
+
+-- the trailer's numbers, for a trailer at `at`
+pub record Right (l : Layout) (at count distance size : ℕ) : Type 0 where
+  pub most : count ≤ l .most
+  pub distance-is : distance ≡ recordLength l * count
+  pub size-is : size ≡ recordLength l
+  pub before : distance ≤ at
+
+pub right : (l : Layout) (at count distance size : ℕ) → wrongTrailer l at count distance size ≡ false → Right l at count distance size
+unfolding wrongTrailer
+right l at count distance size e =
+    let tests = neither _ (ltb at distance) e in
+    let tests-2 = neither _ (not (eqb size (recordLength l))) (tests .0) in
+    let tests-3 = neither (ltb (l .most) count) (not (eqb distance (recordLength l * count))) (tests-2 .0) in
+    record {
+      most = ltb-false _ _ (tests-3 .0);
+      distance-is = eqb-true _ _ (not-false _ (tests-3 .1));
+      size-is = eqb-true _ _ (not-false _ (tests-2 .1));
+      before = ltb-false _ _ (tests .1);
+    }
+
+-- a book that 20, 21 and 22 do not refuse
+pub record Described (l : Layout) (b : List ℕ) (used : ℕ) (d : Description) : Type 0 where
+  pub used-most : used ≤ length b
+  pub places : d .first + recordLength l * d .count + trailerLength l ≡ used
+  pub most : d .count ≤ l .most
+  pub marked : stands (l .mark) b (used - trailerLength l) ≡ true
+  pub count-is : countAt l b (used - trailerLength l) ≡ d .count
+  pub distance-is : distanceAt l b (used - trailerLength l) ≡ recordLength l * d .count
+  pub size-is : lengthAt l b (used - trailerLength l) ≡ recordLength l
+
+pub described : (l : Layout) (b : List ℕ) (used : ℕ) → describeIn l b used .number ≡ 0 → Described l b used (describeIn l b used)
+unfolding describeIn describeAt undescribed
+described l b used e =
+    let number : Description → ℕ = λ d. d .number in
+    let at = used - trailerLength l in
+    let count = countAt l b at in
+    let distance = distanceAt l b at in
+    let size = lengthAt l b at in
+    let length-test = passed number (ltb (length b) used) _ _ (suc-ne-zero 19) e in
+    let short-test = passed number (ltb used (trailerLength l)) _ _ (suc-ne-zero 20) (sym (ap number (length-test .1)) ∙ e) in
+    let after-short = sym (ap number (length-test .1 ∙ short-test .1)) ∙ e in
+    let mark-test = passed number (not (stands (l .mark) b at)) _ _ (suc-ne-zero 20) after-short in
+    let after-mark = sym (ap number (mark-test .1)) ∙ after-short in
+    let trailer-test = passed number (wrongTrailer l at count distance size) _ _ (suc-ne-zero 21) after-mark in
+    let is = length-test .1 ∙ short-test .1 ∙ mark-test .1 ∙ trailer-test .1 in
+    let fields = right l at count distance size (trailer-test .0) in
+    let count-is = ap (λ (d : Description). d .count) is in
+    let first-is = ap (λ (d : Description). d .first) is in
+    let long = ltb-false used (trailerLength l) (short-test .0) in
+    let same-distance = ap (λ (n : ℕ). recordLength l * n) count-is in
+    record {
+      used-most = ltb-false _ _ (length-test .0);
+      places = omega (arith, first-is, same-distance, long, fields .before, fields .distance-is);
+      most = omega (arith, count-is, fields .most);
+      marked = not-false _ (mark-test .0);
+      count-is = sym count-is;
+      distance-is = fields .distance-is ∙ sym same-distance;
+      size-is = fields .size-is;
+    }
+
+-- the numbers that a trailer is refused by
+pub describe-most : (l : Layout) (b : List ℕ) (used : ℕ) → describeIn l b used .number ≤ 22
+unfolding describeIn describeAt undescribed
+describe-most l b used =
+    let at = used - trailerLength l in
+    first-most (ltb (length b) used) 20 _ (lit≤ tt)
+    (first-most (ltb used (trailerLength l)) 21 _ (lit≤ tt)
+    (first-most (not (stands (l .mark) b at)) 21 _ (lit≤ tt)
+    (first-most (wrongTrailer l at (countAt l b at) (distanceAt l b at) (lengthAt l b at)) 22 _ (lit≤ tt) (lit≤ tt))))
+  where
+    first-most : (given : Bool) (n : ℕ) (rest : Description) → n ≤ 22 → rest .number ≤ 22 → cond given (undescribed n) rest .number ≤ 22
+    first-most true n rest n≤ rest≤ = n≤
+    first-most false n rest n≤ rest≤ = rest≤
+
+module _ {A : Type 0} (l : Layout) (b : List ℕ) (used : ℕ) (refuse : ℕ → A) (go-on : Description → A) {d : Description}
+    (is : d ≡ describeIn l b used) where
+  pub onBook-on : d .number ≡ 0 → onBookIn l b used refuse go-on ≡ go-on d
+  unfolding onBookIn
+  onBook-on none = rw (← is) (simp (eq-eqb _ _ none))
+
+  pub onBook-refused : (d .number ≡ 0 → ⊥) → onBookIn l b used refuse go-on ≡ refuse (d .number)
+  unfolding onBookIn
+  onBook-refused given = rw (← is) (simp (ne-eqb _ _ given))

@@ -47,6 +47,7 @@ use Rattle.exact.specs.Laws.Fraction.{
   up<over,
   down≤over,
   over<down,
+  whole-mono,
 }
 use Rattle.exact.specs.Error.{parts, Within}
 use Rattle.exact.specs.Laws.Error.{
@@ -157,7 +158,7 @@ beneath : Within 0 (whole 1) (whole (down 7 3)) (7 over 3)
 beneath = within-down 7 (lit< tt)
 
 one≤two : whole 1 ≤F whole 2
-one≤two = closed≤ tt
+one≤two = whole-mono (lit≤ tt)
 
 errors :
     Within 0 (whole 0) (whole 1) (whole 1) × Within 5 (whole 2) (7 over 3) (whole (up 7 3))

@@ -13,16 +13,7 @@ use Rattle.exact.specs.Laws.Error.{within-weaken, within-same, within-times, wi
 use Rattle.exact.specs.Laws.RoundingError.{within-up-after, within-up-over}
 use Rattle.formulas.specs.Constants.{tera, IsPi}
 use Rattle.formulas.specs.Reactance.{reactance, reactance*}
-use Rattle.formulas.specs.Sheath.{
-  eddyRatio,
-  eddyRatioSquared,
-  eddyFactor,
-  eddySpacing,
-  eddyLoss,
-  eddyRatio*,
-  eddyFactor*,
-  eddyLoss*,
-}
+use Rattle.formulas.specs.Sheath.{eddyRatio, eddyRatioSquared, eddyFactor, eddySpacing, eddyLoss, eddyRatio*, eddyFactor*, eddyLoss*}
 use Rattle.formulas.specs.Laws.Ranges.{In, reactance-range, eddyFactor-most, eddyInner-most}
 use Rattle.formulas.specs.Laws.CloseReactance.{reactance-close}
 use Rattle.formulas.specs.Laws.LogRange.{tera>0}

@@ -22,14 +22,7 @@ use Rattle.formulas.specs.Proximity.{
   acResistance*,
 }
 use Rattle.formulas.specs.Logarithm.{doublings, octaves, doubled, series, firstPower, thirteenTerms, logLow, logHigh, IsLog}
-use Rattle.formulas.specs.Spacing.{
-  spacingLogHigh,
-  spacingLogLow,
-  sheathReactance,
-  sheathReactanceLow,
-  spacingLog*,
-  sheathReactance*,
-}
+use Rattle.formulas.specs.Spacing.{spacingLogHigh, spacingLogLow, sheathReactance, sheathReactanceLow, spacingLog*, sheathReactance*}
 use Rattle.formulas.specs.Sheath.{
   bondRatio,
   bondRatioSquared,

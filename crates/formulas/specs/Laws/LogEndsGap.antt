@@ -10,20 +10,12 @@ use Rattle.exact.specs.Laws.Rounding.{up-least, down-close, up-le-suc-down}
 use Rattle.exact.specs.Trillion.{trillion}
 use Rattle.formulas.specs.Constants.{tera, ln2Low, ln2High}
 use Rattle.formulas.specs.Logarithm.{doubled, series, firstPower, termCount, thirteenTerms, logLow, logHigh}
-use Rattle.formulas.specs.Laws.LogRange.{up-bounded, down-bounded, power-most, firstPower-most, octaves-most}
+use Rattle.formulas.specs.Laws.LogRange.{mostPower≤tera, up-bounded, down-bounded, power-most, firstPower-most, octaves-most}
 use Rattle.formulas.specs.Bounds.{mostPower}
-
--- a third, rounded up: what bounds the powers
-abbrev third : ℕ
-third = mostPower
-
-third≤tera : third ≤ tera
-unfolding tera
-third≤tera = lit≤ tt
 
 -- the next power, where the two factors differ by c and by e
 power-gap :
-    (c e g p q p′ q′ : ℕ) → third * (c + e) ≤ trillion * g → p′ ≤ third → q ≤ third → p′ ≤ p + c → q′ ≤ q + e →
+    (c e g p q p′ q′ : ℕ) → mostPower * (c + e) ≤ trillion * g → p′ ≤ mostPower → q ≤ mostPower → p′ ≤ p + c → q′ ≤ q + e →
     up (p′ * q′) tera ≤ down (p * q) tera + (g + 1)
 unfolding tera
 power-gap c e g p q p′ q′ small p′≤ q≤ p-near q-near =
@@ -42,7 +34,7 @@ term-gap j p p′ near =
     up-least (2 * p′) _ {b = 2 * j + 1} (omega arith) (omega (arith, down-close (2 * p) {b = 2 * j + 1} (omega arith)))
 
 series-gap :
-    (q q′ : ℕ) → q ≤ third → q′ ≤ tera → q′ ≤ q + 2 → (terms j p p′ : ℕ) → p′ ≤ third → p′ ≤ p + 3 →
+    (q q′ : ℕ) → q ≤ mostPower → q′ ≤ tera → q′ ≤ q + 2 → (terms j p p′ : ℕ) → p′ ≤ mostPower → p′ ≤ p + 3 →
     series up q′ terms j p′ ≤ series down q terms j p + 6 * terms
 unfolding series
 series-gap q q′ q≤ q′≤ q-near zero j p p′ p′≤ near = omega arith
@@ -51,17 +43,17 @@ series-gap q q′ q≤ q′≤ q-near (suc terms) j p p′ p′≤ near =
       arith,
       term-gap j p p′ near,
       series-gap q q′ q≤ q′≤ q-near terms (j + 1) (down (p * q) tera) (up (p′ * q′) tera)
-          (power-most up-bounded p′ q′ third q′≤ p′≤)
+          (power-most up-bounded p′ q′ mostPower q′≤ p′≤)
           (power-gap 3 2 2 p q p′ q′ (lit≤ tt) p′≤ q≤ near q-near),
     )
 
-thirteenTerms-gap : (p p′ : ℕ) → p ≤ third → p′ ≤ third → p′ ≤ p + 1 → thirteenTerms up p′ ≤ thirteenTerms down p + 78
+thirteenTerms-gap : (p p′ : ℕ) → p ≤ mostPower → p′ ≤ mostPower → p′ ≤ p + 1 → thirteenTerms up p′ ≤ thirteenTerms down p + 78
 unfolding thirteenTerms
 thirteenTerms-gap p p′ p≤ p′≤ near =
     le-trans
     (series-gap (down (p * p) tera) (up (p′ * p′) tera)
-    (power-most down-bounded p p third (le-trans p≤ third≤tera) p≤)
-    (le-trans (power-most up-bounded p′ p′ third (le-trans p′≤ third≤tera) p′≤) third≤tera)
+    (power-most down-bounded p p mostPower (le-trans p≤ mostPower≤tera) p≤)
+    (le-trans (power-most up-bounded p′ p′ mostPower (le-trans p′≤ mostPower≤tera) p′≤) mostPower≤tera)
     (power-gap 1 1 1 p p p′ p′ (lit≤ tt) p′≤ p≤ near near)
     termCount 0 p p′ p′≤ (omega arith))
     (add-le-add (le-refl _) (lit≤ tt))

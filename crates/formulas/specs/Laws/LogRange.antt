@@ -18,6 +18,10 @@ pub tera>0 : 0 < tera
 unfolding tera
 tera>0 = lit< tt
 
+pub mostPower≤tera : mostPower ≤ tera
+unfolding tera
+mostPower≤tera = lit≤ tt
+
 -- a rounding that gives at most k for a quotient that is at most k, as both do
 abbrev pub Bounded : (ℕ → ℕ → ℕ) → Type 0
 Bounded round = (a k b : ℕ) → 0 < b → a ≤ k * b → round a b ≤ k
@@ -50,16 +54,12 @@ module _ {round : ℕ → ℕ → ℕ} (bounded : Bounded round) where
       let k : Largest a b (octaves a b) = octaves-largest a b b>0 b≤a in
       bounded _ mostPower (a + 2 ^ octaves a b * b) (omega arith) (omega arith)
 
-  third≤tera : mostPower ≤ tera
-  unfolding tera
-  third≤tera = lit≤ tt
-
   pub thirteenTerms-most : (p : ℕ) → p ≤ mostPower → thirteenTerms round p ≤ mostTerms
   unfolding thirteenTerms
   thirteenTerms-most p p≤ =
       le-trans
       (series-most (round (p * p) tera) termCount 0 p mostPower
-      (le-trans (power-most p p mostPower (le-trans p≤ third≤tera) p≤) third≤tera)
+      (le-trans (power-most p p mostPower (le-trans p≤ mostPower≤tera) p≤) mostPower≤tera)
       p≤)
       (lit≤ tt)
 

@@ -2,15 +2,7 @@
 use mathlib.Core.Path.{_≡_, refl, ap}
 use mathlib.Core.Bool.{Bool, true, false, cond}
 use Prim.Native.Nat.{ℕ, zero, suc, _*_, _^_, _≤_, _<_}
-use native.Mathlib.Nat.{
-  pow-zero,
-  pow-suc,
-  le-antisymm,
-  lt-of-not-le,
-  lt-of-lt-of-le,
-  lt-of-mul-lt-mul-right,
-  le-mul-of-pos-right,
-}
+use native.Mathlib.Nat.{pow-zero, pow-suc, le-antisymm, lt-of-not-le, lt-of-lt-of-le, lt-of-mul-lt-mul-right, le-mul-of-pos-right}
 use native.Mathlib.Omega.{arith}
 use lib.Dec.{leb}
 use lib.Pow.{pow-mono}

@@ -35,13 +35,7 @@ use Rattle.formulas.specs.Armour.{
   screenedLoss,
   armourLoss,
 }
-use Rattle.formulas.specs.Dielectric.{
-  dielectricLoss,
-  dielectricResistance,
-  dielectricRise,
-  permittedRise,
-  currentRise,
-}
+use Rattle.formulas.specs.Dielectric.{dielectricLoss, dielectricResistance, dielectricRise, permittedRise, currentRise}
 use Rattle.formulas.specs.Rating.{unitRise, rating}
 
 pub record Recomputed : Type 0 where

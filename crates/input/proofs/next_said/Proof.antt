@@ -26,18 +26,18 @@ ends-before here chunk at end h e w =
 past : (to end : ℕ) → to < end → to + 1 ≤ end
 past to end h = omega arith
 
-slice-aggregate-read-at : tie.Need-slice-aggregate-read-at
-slice-aggregate-read-at c = sym (length-take-le _ _ (c .before .before .before .pre .inside))
+chunk-part : tie.Need-slice-aggregate-read-at
+chunk-part c = sym (length-take-le _ _ (c .before .before .before .pre .inside))
 
-add-t14 : tie.Need-add-t14
-add-t14 c =
+past-feed : tie.Need-add-t14
+past-feed c =
     let at-read = c .before .before .before in
     let ready = at-read .before .before .before .before .pre in
     omega (arith, ends-before _ _ _ _ (ready .inside) (at-read .read-at .ensures) (c .before .before .if1 .taken))
 
-returns : tie.Need-returns
+read-in-place : tie.Need-returns
 unfolding saidHere
-returns c =
+read-in-place c =
     let at-read = c .before .before .before in
     let begun = at-read .before .before .before .before in
     let ready = begun .pre in
@@ -45,11 +45,11 @@ returns c =
     let before-end = ends-before _ _ _ _ (ready .inside) here (c .before .before .if1 .taken) in
     (record { within = past _ _ before-end; inside = ready .inside }, λ whole. ap (λ (l : Line). saidHere l (begun .args .from)) here)
 
-slice-aggregate-read-line : tie.Need-slice-aggregate-read-line
-slice-aggregate-read-line c = sym (length-take-le _ _ (c .before .before .before .before .before .before .next-line .ensures .fits))
+line-part : tie.Need-slice-aggregate-read-line
+line-part c = sym (length-take-le _ _ (c .before .before .before .before .before .before .next-line .ensures .fits))
 
-returns-2 : tie.Need-returns-2
-returns-2 c =
+read-gathered : tie.Need-returns-2
+read-gathered c =
     let at-line = c .before .before .before .before .before .before .before in
     let at-test = at-line .before .before .before in
     let here = ap (λ (l : Line). l .whole) (at-test .before .read-at .ensures) in
@@ -60,15 +60,15 @@ next-said-spec =
     tie.close
     (tie.spec
     (λ c. search needs)
-    slice-aggregate-read-at
+    chunk-part
     (λ c κs. search needs)
-    add-t14
+    past-feed
     (λ c. search needs)
-    returns
-    (λ c κs. search needs)
-    (λ c. search needs)
-    slice-aggregate-read-line
+    read-in-place
     (λ c κs. search needs)
     (λ c. search needs)
+    line-part
+    (λ c κs. search needs)
     (λ c. search needs)
-    returns-2)
+    (λ c. search needs)
+    read-gathered)

@@ -14,12 +14,12 @@ use Rattle.line_in_place.proofs.plain.has_room.Tie as tie
 left : (room from n : ℕ) → from < n → leb room (n - from) ≡ true → from + room ≤ n
 left room from n h e = omega (arith, leb-true room (n - from) e)
 
-returns : tie.Need-returns
+room-left : tie.Need-returns
 unfolding longestPlain
-returns c e = left _ _ _ (c .if1 .taken) e
+room-left c e = left _ _ _ (c .if1 .taken) e
 
-returns-2 : tie.Need-returns-2
-returns-2 c e = absurd (false≢true e)
+no-room : tie.Need-returns-2
+no-room c e = absurd (false≢true e)
 
 pub has-room-spec : {M : Type 1} → statement M
-has-room-spec = tie.close (tie.spec (λ c. search needs) returns returns-2)
+has-room-spec = tie.close (tie.spec (λ c. search needs) room-left no-room)

@@ -6,11 +6,11 @@ use borrow.Author.Tests.{eq-eqb, ne-eqb}
 use Rattle.line_in_place.proofs.plain.past_return.Statement.{statement}
 use Rattle.line_in_place.proofs.plain.past_return.Tie as tie
 
-returns : tie.Need-returns
-returns c = sym (simp (eq-eqb _ 13 (c .if1 .taken)))
+return-passed : tie.Need-returns
+return-passed c = sym (simp (eq-eqb _ 13 (c .if1 .taken)))
 
-returns-2 : tie.Need-returns-2
-returns-2 c = sym (simp (ne-eqb _ 13 (c .if1 .left)))
+no-return : tie.Need-returns-2
+no-return c = sym (simp (ne-eqb _ 13 (c .if1 .left)))
 
 pub past-return-spec : {M : Type 1} → statement M
-past-return-spec = tie.close (tie.spec (λ c. search needs) (λ c. search needs) returns returns-2)
+past-return-spec = tie.close (tie.spec (λ c. search needs) (λ c. search needs) return-passed no-return)

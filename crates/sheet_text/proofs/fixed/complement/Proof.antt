@@ -18,12 +18,12 @@ below-zero n least most =
     let more : 4294967296 - n ≡ suc (4294967296 - suc n) = omega arith in
     ap (λ (k : ℕ). negℤ (pos k)) more ∙ simp (le-ltb n 2147483648 least)
 
-returns : tie.Need-returns
-returns c = c .plain .ensures ∙ sym (toZ-pos w32 _ (c .before .if1 .taken))
+as-it-stands : tie.Need-returns
+as-it-stands c = c .plain .ensures ∙ sym (toZ-pos w32 _ (c .before .if1 .taken))
 
-returns-2 : tie.Need-returns-2
+under-zero : tie.Need-returns-2
 unfolding number
-returns-2 c = below-zero _ (c .if1 .left) (omega arith)
+under-zero c = below-zero _ (c .if1 .left) (omega arith)
 
 pub complement-spec : {M : Type 1} → statement M
-complement-spec = tie.close (tie.spec (λ c κs. search needs) returns (λ c. search needs) returns-2)
+complement-spec = tie.close (tie.spec (λ c κs. search needs) as-it-stands (λ c. search needs) under-zero)

@@ -21,22 +21,22 @@ small i n p h k e = rw e (pow-le-pow-right (lit< tt) {i = i} {j = 16} (omega ari
 next : (i p : ℕ) → p ≡ 10 ^ i → p * 10 ≡ 10 ^ (i + 1)
 next i p e = ap (λ (q : ℕ). q * 10) e ∙ sym (pow-suc 10 i) ∙ ap (λ (j : ℕ). 10 ^ j) (sym (add-one i))
 
-loop-holds : tie.Need-loop-holds Inv-loop μ-loop
-loop-holds c = (zero-le, refl)
+first-power : tie.Need-loop-holds Inv-loop μ-loop
+first-power c = (zero-le, refl)
 
-mul-p : tie.Need-mul-p Inv-loop μ-loop
-mul-p c =
+product-fits : tie.Need-mul-p Inv-loop μ-loop
+product-fits c =
     let at-loop = c .before .loop in
     omega (arith, small (at-loop .i) _ _ (c .loop-test .taken) (c .before .before .pre) (at-loop .inv .1))
 
-loop-again : tie.Need-loop-again Inv-loop μ-loop
-loop-again c = (omega arith, next _ _ (c .before .loop .inv .1))
+next-power : tie.Need-loop-again Inv-loop μ-loop
+next-power c = (omega arith, next _ _ (c .before .loop .inv .1))
 
-returns : tie.Need-returns Inv-loop μ-loop
-returns c =
+last-power : tie.Need-returns Inv-loop μ-loop
+last-power c =
     let same : c .before .loop .i ≡ c .before .before .args .n = omega arith in
     c .before .loop .inv .1 ∙ ap (λ (j : ℕ). 10 ^ j) same
 
 pub power-of-ten-spec : {M : Type 1} → statement M
 power-of-ten-spec =
-    tie.close (tie.spec Inv-loop μ-loop loop-holds mul-p (λ c. omega arith) (λ c. omega arith) loop-again returns)
+    tie.close (tie.spec Inv-loop μ-loop first-power product-fits (λ c. omega arith) (λ c. omega arith) next-power last-power)

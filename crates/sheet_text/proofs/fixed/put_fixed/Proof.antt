@@ -29,37 +29,37 @@ sum-small d one x e h = omega (arith, small d one e h, mod-lt x (positive d one 
 count : (x one : ℕ) → x < 2 ^ 64 → length (decimal (x / one)) ≤ 20
 count x one h = count-64 (x / one) (lt-of-le-of-lt (div-le-self x one) h)
 
-returns : tie.Need-returns
-returns c =
+no-decimals : tie.Need-returns
+no-decimals c =
     let a = c .before .before .before .before .before .before .args in
     let h = c .before .before .put-decimal .ensures in
     let same = fixed-none (a .decimals) (a .x) (c .before .before .before .before .if1 .taken) in
     (h .0 ∙ ap (λ (t : List ℕ). a .at + length t) same, h .1 ∙ ap (splice (a .out .now) (a .at)) same)
 
-div-put-decimal : tie.Need-div-put-decimal
-div-put-decimal c = positive _ _ (c .before .power-of-ten .ensures)
+power-positive : tie.Need-div-put-decimal
+power-positive c = positive _ _ (c .before .power-of-ten .ensures)
 
-rem-put-decimal : tie.Need-rem-put-decimal
-rem-put-decimal c = positive _ _ (c .before .before .before .before .before .power-of-ten .ensures)
+power-positive-again : tie.Need-rem-put-decimal
+power-positive-again c = positive _ _ (c .before .before .before .before .before .power-of-ten .ensures)
 
-add-put-decimal : tie.Need-add-put-decimal
-add-put-decimal c =
+sum-fits : tie.Need-add-put-decimal
+sum-fits c =
     let start = c .before .before .before .before .before .before .before .before in
     omega (arith, sum-small _ _ (start .args .x) (c .before .before .before .before .before .power-of-ten .ensures) (start .pre .1))
 
-put-decimal-requires-3 : tie.Need-put-decimal-requires-3
-put-decimal-requires-3 c κs =
+room-for-rest : tie.Need-put-decimal-requires-3
+room-for-rest c κs =
     let start = c .before .before .before .before .before .before .before .before in
     omega (arith, count (start .args .x) (c .before .before .before .before .before .power-of-ten .result) (start .fits .x .fits))
 
-put-byte-requires : tie.Need-put-byte-requires
-put-byte-requires c κs =
+room-for-point : tie.Need-put-byte-requires
+room-for-point c κs =
     let two = c .before .before .before .before .before .before .before .before in
     let start = two .before .before .before .before in
     omega (arith, count (start .args .x) (two .before .power-of-ten .result) (start .fits .x .fits))
 
-returns-2 : tie.Need-returns-2
-returns-2 c =
+with-decimals : tie.Need-returns-2
+with-decimals c =
     let three = c .before .before .before .before .before .before in
     let two = three .before .before .before .before in
     let one = two .before .before .power-of-ten in
@@ -82,13 +82,13 @@ put-fixed-spec =
     (tie.spec
     (λ c κs. search needs)
     (λ c. search needs)
-    returns
+    no-decimals
     (λ c κs. search needs)
-    div-put-decimal
+    power-positive
     (λ c κs. search needs)
-    rem-put-decimal
-    add-put-decimal
-    put-decimal-requires-3
-    put-byte-requires
+    power-positive-again
+    sum-fits
+    room-for-rest
+    room-for-point
     (λ c. search needs)
-    returns-2)
+    with-decimals)

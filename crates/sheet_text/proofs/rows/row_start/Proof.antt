@@ -15,16 +15,16 @@ Inv-loop text n at₀ i₀ at i = (i ≤ n) × (at ≤ length text)
 abbrev μ-loop : tie.MeasureT-loop
 μ-loop text n at₀ i₀ at i = n - i
 
-loop-holds : tie.Need-loop-holds Inv-loop μ-loop
-loop-holds c = (zero-le, zero-le)
+first-row : tie.Need-loop-holds Inv-loop μ-loop
+first-row c = (zero-le, zero-le)
 
-add-at : tie.Need-add-at Inv-loop μ-loop
-add-at c =
+past-feed : tie.Need-add-at Inv-loop μ-loop
+past-feed c =
     let at-loop = c .before .before .loop in
     omega (arith, run-within isInLine (c .before .before .before .before .args .text .now) (at-loop .at) (at-loop .inv .1))
 
-returns : tie.Need-returns Inv-loop μ-loop
-returns c = le-refl _
+past-the-rows : tie.Need-returns Inv-loop μ-loop
+past-the-rows c = le-refl _
 
 pub row-start-spec : {M : Type 1} → statement M
 row-start-spec =
@@ -32,10 +32,10 @@ row-start-spec =
     (tie.spec
     Inv-loop
     μ-loop
-    loop-holds
+    first-row
     (λ c κs. tt)
-    add-at
-    returns
+    past-feed
+    past-the-rows
     (λ c. omega arith)
     (λ c. omega arith)
     (λ c. omega arith)

@@ -72,28 +72,28 @@ turn c =
     let a = c .before .before .before .before .before .before .args in
     inside _ _ _ (a .to) (a .chunk .now) _ _ (count-is (c .before .before)) (c .loop-test .taken)
 
-loop-holds : tie.Need-loop-holds Inv-loop μ-loop
-loop-holds c =
+none-copied : tie.Need-loop-holds Inv-loop μ-loop
+none-copied c =
     let a = c .before .before .before .before .args in
     (zero-le, (refl, paste-zero _ (a .len) (drop (a .from) (a .chunk .now))))
 
-add-line : tie.Need-add-line Inv-loop μ-loop
-add-line c = let h = turn c in omega arith
+source-fits : tie.Need-add-line Inv-loop μ-loop
+source-fits c = let h = turn c in omega arith
 
-shared-slice-read-line : tie.Need-shared-slice-read-line Inv-loop μ-loop
-shared-slice-read-line c = turn (c .before) .to-read
+source-inside : tie.Need-shared-slice-read-line Inv-loop μ-loop
+source-inside c = turn (c .before) .to-read
 
-add-line-2 : tie.Need-add-line-2 Inv-loop μ-loop
-add-line-2 c = let h = turn (c .before) in omega arith
+place-fits : tie.Need-add-line-2 Inv-loop μ-loop
+place-fits c = let h = turn (c .before) in omega arith
 
-slice-write-line : tie.Need-slice-write-line Inv-loop μ-loop
-slice-write-line c = let h = turn (c .before) in omega arith
+place-inside : tie.Need-slice-write-line Inv-loop μ-loop
+place-inside c = let h = turn (c .before) in omega arith
 
-add-i : tie.Need-add-i Inv-loop μ-loop
-add-i c = let h = turn (c .before) in omega arith
+count-fits : tie.Need-add-i Inv-loop μ-loop
+count-fits c = let h = turn (c .before) in omega arith
 
-loop-again : tie.Need-loop-again Inv-loop μ-loop
-loop-again c =
+one-more-copied : tie.Need-loop-again Inv-loop μ-loop
+one-more-copied c =
     let at-loop = c .before .before in
     let h = turn (c .before) in (
       omega arith,
@@ -103,8 +103,8 @@ loop-again c =
       ),
     )
 
-add-result : tie.Need-add-result Inv-loop μ-loop
-add-result c =
+end-fits : tie.Need-add-result Inv-loop μ-loop
+end-fits c =
     let a = c .before .before .before .before .before .before .args in
     let b = bound (length (a .line .now) - a .len) (a .from) (a .to) (a .chunk .now) in
     omega (arith, b, count-is (c .before .before))
@@ -112,8 +112,8 @@ add-result c =
 same-length : tie.Need-same-length Inv-loop μ-loop
 same-length c = c .before .loop .inv .1 .0
 
-returns : tie.Need-returns Inv-loop μ-loop
-returns c =
+all-copied : tie.Need-returns Inv-loop μ-loop
+all-copied c =
     let a = c .before .before .before .before .before .before .args in
     let count = count-is (c .before .before) in
     let all : c .before .loop .i ≡ c .before .before .kept-count .result = omega arith in (
@@ -131,14 +131,14 @@ keep-spec =
     μ-loop
     (λ c κs. tt)
     (λ c κs. tt)
-    loop-holds
-    add-line
-    shared-slice-read-line
-    add-line-2
-    slice-write-line
-    add-i
+    none-copied
+    source-fits
+    source-inside
+    place-fits
+    place-inside
+    count-fits
     (λ c. omega arith)
-    loop-again
-    add-result
+    one-more-copied
+    end-fits
     same-length
-    returns)
+    all-copied)

@@ -88,16 +88,16 @@ module _ {n : ℕ} {s l : List ℕ} {at i : ℕ} (on : Reading-on n s l at i) (a
 more : (c : tie.In-loop Inv-loop μ-loop) → c .before .loop .i < width
 more c = omega arith
 
-loop-holds : tie.Need-loop-holds Inv-loop μ-loop
+none-read : tie.Need-loop-holds Inv-loop μ-loop
 unfolding after
-loop-holds c = record { count = omega arith; within = omega arith; room = refl; same = refl }
+none-read c = record { count = omega arith; within = omega arith; room = refl; same = refl }
 
-read-word-requires : tie.Need-read-word-requires Inv-loop μ-loop
-read-word-requires c κs = rw (c .skip-blanks .ensures) (run-within isBlank _ _ (c .before .before .loop .inv .within))
+word-inside : tie.Need-read-word-requires Inv-loop μ-loop
+word-inside c κs = rw (c .skip-blanks .ensures) (run-within isBlank _ _ (c .before .before .loop .inv .within))
 
-returns : tie.Need-returns Inv-loop μ-loop
+no-number : tie.Need-returns Inv-loop μ-loop
 unfolding answer piece
-returns c =
+no-number c =
     let word = c .before .before .before in
     let at-turn = word .before .before in
     c .no-case .ensures
@@ -116,9 +116,9 @@ returns c =
 loop-less : tie.Need-loop-less Inv-loop μ-loop
 loop-less c = omega arith
 
-loop-again : tie.Need-loop-again Inv-loop μ-loop
+one-more-read : tie.Need-loop-again Inv-loop μ-loop
 unfolding piece
-loop-again c =
+one-more-read c =
     let word = c .before .before .before in
     let at-turn = word .before .before in
     next
@@ -133,17 +133,17 @@ loop-again c =
     _
     (c .before .said .given .1)
 
-returns-2 : tie.Need-returns-2 Inv-loop μ-loop
+more-words : tie.Need-returns-2 Inv-loop μ-loop
 unfolding answer
-returns-2 c =
+more-words c =
     let at-end = c .before .before .before in
     c .no-case2 .ensures
     ∙ ap answer
     (too-long (at-end .before .loop .inv) (at-end .loop-test .left) _ (c .before .before .skip-blanks2 .ensures) (c .before .if1 .taken))
 
-returns-3 : tie.Need-returns-3 Inv-loop μ-loop
+all-read : tie.Need-returns-3 Inv-loop μ-loop
 unfolding answer
-returns-3 c =
+all-read c =
     let at-end = c .before .before in
     ap answer (done (at-end .before .loop .inv) (at-end .loop-test .left) _ (c .before .skip-blanks2 .ensures) (c .if1 .left))
 
@@ -153,19 +153,19 @@ read-fields-spec =
     (tie.spec
     Inv-loop
     μ-loop
-    loop-holds
+    none-read
     (λ c κs. tt)
-    read-word-requires
+    word-inside
     (λ c. search needs)
     (λ c. omega arith)
     (λ c. omega arith)
     (λ c. search needs)
     (λ c κs. tt)
-    returns
+    no-number
     (λ c. omega arith)
     loop-less
-    loop-again
+    one-more-read
     (λ c κs. tt)
     (λ c κs. tt)
-    returns-2
-    returns-3)
+    more-words
+    all-read)

@@ -29,20 +29,20 @@ within : (l : List ℕ) (k : ℕ) → k ≡ textLength l → k ≤ length l
 unfolding textLength
 within l k e = rw e (one-less (eqb (getD l (length l - 1) 0) 13) (length l))
 
-returns : tie.Need-returns
+longer-line : tie.Need-returns
 unfolding answer readLine
-returns c = c .no-case .ensures ∙ ap answer (sym (too-long width _ (omega arith)))
+longer-line c = c .no-case .ensures ∙ ap answer (sym (too-long width _ (omega arith)))
 
-slice-aggregate-read-text : tie.Need-slice-aggregate-read-text
-slice-aggregate-read-text c =
+text-inside : tie.Need-slice-aggregate-read-text
+text-inside c =
     let l = c .before .before .before .before .args .line .now in
     sym (length-take-le _ l (within l _ (c .before .text-length .ensures)))
 
-returns-2 : tie.Need-returns-2
+text-read : tie.Need-returns-2
 unfolding readLine
-returns-2 c =
+text-read c =
     c .read-text .ensures ∙ ap answer (taken width _ _ (c .before .before .before .if1 .left) (c .before .before .text-length .ensures))
 
 pub read-line-spec : {M : Type 1} → statement M
 read-line-spec =
-    tie.close (tie.spec (λ c κs. tt) returns (λ c κs. tt) slice-aggregate-read-text (λ c κs. tt) returns-2)
+    tie.close (tie.spec (λ c κs. tt) longer-line (λ c κs. tt) text-inside (λ c κs. tt) text-read)

@@ -16,16 +16,16 @@ unfolding textLength
 none [] e = refl
 none (b ∷ l) e = absurd (omega arith)
 
-returns : tie.Need-returns
-returns c = none _ (c .if1 .taken)
+empty-line : tie.Need-returns
+empty-line c = none _ (c .if1 .taken)
 
-returns-2 : tie.Need-returns-2
+with-return : tie.Need-returns-2
 unfolding textLength
-returns-2 c = simp (eq-eqb _ _ (c .if2 .taken))
+with-return c = simp (eq-eqb _ _ (c .if2 .taken))
 
-returns-3 : tie.Need-returns-3
+without-return : tie.Need-returns-3
 unfolding textLength
-returns-3 c = simp (ne-eqb _ _ (c .if2 .left))
+without-return c = simp (ne-eqb _ _ (c .if2 .left))
 
 pub text-length-spec : {M : Type 1} → statement M
-text-length-spec = tie.close (tie.spec returns (λ c. search needs) (λ c. search needs) (λ c. search needs) returns-2 returns-3)
+text-length-spec = tie.close (tie.spec empty-line (λ c. search needs) (λ c. search needs) (λ c. search needs) with-return without-return)

@@ -9,17 +9,17 @@ use Rattle.text.specs.Words.{isInk}
 use Rattle.text.proofs.words.is_past_word.Statement.{statement}
 use Rattle.text.proofs.words.is_past_word.Tie as tie
 
-returns : tie.Need-returns
+at-blank : tie.Need-returns
 unfolding isInk
-returns c =
+at-blank c =
     let a = c .before .before .before .before .args in
     λ blank. omega (arith, run-stop isInk (a .s .now) (a .at) (c .before .before .if1 .taken) (ap not (sym (c .is-blank .ensures) ∙ blank)))
 
-returns-2 : tie.Need-returns-2
-returns-2 c =
+at-the-end : tie.Need-returns-2
+at-the-end c =
     let a = c .before .before .args in
     λ e. omega (arith, run-end isInk (a .s .now) (a .at) (c .if1 .left))
 
 pub is-past-word-spec : {M : Type 1} → statement M
 is-past-word-spec =
-    tie.close (tie.spec (λ c. search needs) (λ c κs. search needs) returns returns-2)
+    tie.close (tie.spec (λ c. search needs) (λ c κs. search needs) at-blank at-the-end)

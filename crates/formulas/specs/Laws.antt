@@ -1,5 +1,6 @@
 -- What follows from the definitions: closed values, ranges, what docs/RATING.md says of the logarithm and of the rating, and how
 -- close each rounded stage lies to its exact one. Assumes nothing.
+pub mod Bounds
 pub mod Edges
 pub mod Values
 pub mod Temperature

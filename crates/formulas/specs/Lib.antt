@@ -14,5 +14,4 @@ pub mod Armour
 pub mod Dielectric
 pub mod Rating
 pub mod Refusals
-pub mod Bounds
 pub mod Laws

@@ -8,7 +8,7 @@ use Rattle.exact.specs.Trillion.{trillion}
 use Rattle.formulas.specs.Constants.{tera}
 use Rattle.formulas.specs.Logarithm.{octaves, firstPower, thirteenTerms}
 use Rattle.formulas.specs.Laws.LogRange.{Bounded, firstPower-most, thirteenTerms-most, octaves-most}
-use Rattle.formulas.specs.Bounds.{mostPower, mostTerms}
+use Rattle.formulas.specs.Laws.Bounds.{mostPower, mostTerms}
 use Rattle.stages.specs.Reduced.{IsReduced}
 use Rattle.stages.proofs.Series.{fits}
 

@@ -11,7 +11,7 @@ use Rattle.exact.specs.Trillion.{trillion}
 use Rattle.formulas.specs.Constants.{tera}
 use Rattle.formulas.specs.Logarithm.{series, thirteenTerms}
 use Rattle.formulas.specs.Laws.LogRange.{Bounded, power-most, term-most}
-use Rattle.formulas.specs.Bounds.{mostPower}
+use Rattle.formulas.specs.Laws.Bounds.{mostPower}
 
 -- before term j the sum and the terms that are left make the whole, and every number is small
 pub record Summed (round : ℕ → ℕ → ℕ) (first q p sum j : ℕ) : Type 0 where

@@ -2,7 +2,7 @@
 ghost use mathlib.Core.Path.{_≡_};
 ghost use Prim.Native.Nat.{_*_, _≤_, _<_};
 ghost use Rattle.formulas.specs.Armour.{reducedArmourResistance, unscreenedLoss, screeningRatioSquared, screenedLoss};
-ghost use Rattle.formulas.specs.Bounds.{leastSheathResistance, mostResistance, leastReactance, mostSheathReactance, mostArmourLoss};
+ghost use Rattle.formulas.specs.Laws.Bounds.{leastSheathResistance, mostResistance, leastReactance, mostSheathReactance, mostArmourLoss};
 use wide::ratio::mul_div_down;
 use wide::ratio::mul_div_up;
 use wide::trillion::T;

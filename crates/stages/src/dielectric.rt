@@ -2,7 +2,7 @@
 ghost use mathlib.Core.Path.{_≡_};
 ghost use Prim.Native.Nat.{_≤_};
 ghost use Rattle.formulas.specs.Dielectric.{dielectricLoss, dielectricRise};
-ghost use Rattle.formulas.specs.Bounds.{mostReactance, mostLog, leastInsulationLog, mostDielectricLoss};
+ghost use Rattle.formulas.specs.Laws.Bounds.{mostReactance, mostLog, leastInsulationLog, mostDielectricLoss};
 use wide::ratio::mul_div_up;
 
 pub fn dielectric_loss(e: u64, u0: u64, t: u64, b: u64, l: u64) -> u64

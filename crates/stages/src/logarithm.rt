@@ -3,7 +3,7 @@ ghost use mathlib.Core.Path.{_≡_};
 ghost use Prim.Native.Nat.{_*_, _≤_, _<_};
 ghost use Rattle.exact.specs.Rounding.{up, down};
 ghost use Rattle.formulas.specs.Logarithm.{thirteenTerms, logLow, logHigh};
-ghost use Rattle.formulas.specs.Bounds.{mostPower};
+ghost use Rattle.formulas.specs.Laws.Bounds.{mostPower};
 ghost use Rattle.stages.specs.Reduced.{IsReduced};
 use super::constants::LN2_HIGH;
 use super::constants::LN2_LOW;

@@ -3,7 +3,7 @@ ghost use mathlib.Core.Path.{_≡_};
 ghost use Prim.Native.Nat.{_≤_, _<_};
 ghost use Rattle.exact.specs.Trillion.{trillion};
 ghost use Rattle.formulas.specs.Proximity.{spacingRatio, proximityH, proximityG, proximityFactor, acResistance};
-ghost use Rattle.formulas.specs.Bounds.{mostResistance, mostSkinFactor, mostProximityFactor};
+ghost use Rattle.formulas.specs.Laws.Bounds.{mostResistance, mostSkinFactor, mostProximityFactor};
 use wide::ratio::mul_div_up;
 use wide::trillion::T;
 use wide::trillion::mul_div_up_trillion;

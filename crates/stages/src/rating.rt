@@ -3,7 +3,7 @@ ghost use mathlib.Core.Path.{_≡_};
 ghost use Prim.Native.Nat.{_*_, _≤_};
 ghost use Rattle.exact.specs.Rounding.{up};
 ghost use Rattle.formulas.specs.Rating.{unitRise, rating};
-ghost use Rattle.formulas.specs.Bounds.{mostAcResistance, mostSheathLoss, mostArmourLoss, mostCurrentRise, leastUnitRise};
+ghost use Rattle.formulas.specs.Laws.Bounds.{mostAcResistance, mostSheathLoss, mostArmourLoss, mostCurrentRise, leastUnitRise};
 use wide::ratio::mul_div_down;
 use wide::ratio::mul_div_up;
 use wide::root::root;

@@ -12,7 +12,7 @@ ghost use Rattle.formulas.specs.Sheath.{
   eddySpacing,
   eddyLoss,
 };
-ghost use Rattle.formulas.specs.Bounds.{leastSheathResistance, mostResistance, mostSheathReactance};
+ghost use Rattle.formulas.specs.Laws.Bounds.{leastSheathResistance, mostResistance, mostSheathReactance};
 use wide::ratio::mul_div_up;
 use wide::trillion::T;
 use wide::trillion::mul_div_up_trillion;

@@ -2,7 +2,7 @@
 ghost use mathlib.Core.Path.{_≡_};
 ghost use Prim.Native.Nat.{_≤_};
 ghost use Rattle.formulas.specs.Skin.{skinReactance, skinRatio, skinRatioSquared, factor};
-ghost use Rattle.formulas.specs.Bounds.{leastConductorResistance};
+ghost use Rattle.formulas.specs.Laws.Bounds.{leastConductorResistance};
 ghost use Rattle.formulas.specs.Refusals.{skinLimit};
 use super::constants::PI_HIGH;
 use wide::ratio::mul_div_up;

@@ -3,7 +3,7 @@ ghost use mathlib.Core.Path.{_≡_};
 ghost use Prim.Native.Nat.{_+_, _*_, _≤_, _<_};
 ghost use Rattle.exact.specs.Trillion.{trillion};
 ghost use Rattle.formulas.specs.Spacing.{thirdOf, spacingLogHigh, spacingLogLow, sheathReactance, sheathReactanceLow};
-ghost use Rattle.formulas.specs.Bounds.{mostReactance, mostLog, mostSpacingLog};
+ghost use Rattle.formulas.specs.Laws.Bounds.{mostReactance, mostLog, mostSpacingLog};
 use super::constants::LN2_THIRD_HIGH;
 use super::constants::LN2_THIRD_LOW;
 use super::logarithm::log_high;

@@ -36,7 +36,7 @@ use Rattle.formulas.specs.Armour.{
 }
 use Rattle.formulas.specs.Laws.Ranges.{In, reactance-range, reducedArmourResistance-most, unscreenedLoss-most}
 use Rattle.formulas.specs.Laws.CloseReactance.{reactance-close}
-use Rattle.formulas.specs.Bounds.{leastSheathResistance, mostResistance, leastSheathReactanceLow, mostArmourLoss}
+use Rattle.formulas.specs.Laws.Bounds.{leastSheathResistance, mostResistance, leastSheathReactanceLow, mostArmourLoss}
 use Rattle.formulas.specs.Laws.CloseInverse.{tera-th, inverse-close}
 use Rattle.formulas.specs.Laws.CloseScreening.{screeningRatio-close, screening-close, screening-share-most}
 use Rattle.formulas.specs.Laws.OverT.{quotient-close}

@@ -18,7 +18,7 @@ use Rattle.formulas.specs.Laws.Ranges.{In, reactance-range, eddyFactor-m
 use Rattle.formulas.specs.Laws.CloseReactance.{reactance-close}
 use Rattle.formulas.specs.Laws.LogRange.{tera>0}
 use Rattle.formulas.specs.Laws.CloseSheath.{ratio-close, square-close, saturate-close}
-use Rattle.formulas.specs.Bounds.{leastSheathResistance, mostResistance, leastReactance, mostEddyInner}
+use Rattle.formulas.specs.Laws.Bounds.{leastSheathResistance, mostResistance, leastReactance, mostEddyInner}
 use Rattle.formulas.specs.Laws.OverT.{quotient-close}
 
 -- m, m2 and e'.

@@ -57,7 +57,7 @@ use Rattle.formulas.specs.Laws.CloseArmour.{armour-close}
 use Rattle.formulas.specs.Laws.CloseDielectric.{loss-close, dielectric-close}
 use Rattle.formulas.specs.Laws.CloseUnitRise.{unitRise-close}
 use Rattle.formulas.specs.Laws.CloseRise.{Stage10, rise-safe, rise-above}
-use Rattle.formulas.specs.Bounds.{leastConductorResistance, leastSheathResistance, mostResistance, leastSheathReactance}
+use Rattle.formulas.specs.Laws.Bounds.{leastConductorResistance, leastSheathResistance, mostResistance, leastSheathReactance}
 
 -- What stands for pi, ln 2, and the logarithms of 2s/d = 84/40 and Di/ds = 36/17.5.
 

@@ -47,7 +47,7 @@ use Rattle.formulas.specs.Laws.OverT.{
 }
 use Rattle.formulas.specs.Laws.CloseSkin.{skinFactor-close}
 use Rattle.formulas.specs.Laws.LogRange.{tera>0}
-use Rattle.formulas.specs.Bounds.{leastConductorResistance, mostResistance, mostSkinFactor, mostProximityFactor}
+use Rattle.formulas.specs.Laws.Bounds.{leastConductorResistance, mostResistance, mostSkinFactor, mostProximityFactor}
 use Rattle.formulas.specs.Refusals.{skinLimit}
 
 -- The proximity effect.

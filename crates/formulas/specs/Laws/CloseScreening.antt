@@ -14,7 +14,7 @@ use Rattle.exact.specs.Trillion.{trillion}
 use Rattle.formulas.specs.Constants.{tera}
 use Rattle.formulas.specs.Armour.{screeningRatioSquared}
 use Rattle.formulas.specs.Laws.Ranges.{In}
-use Rattle.formulas.specs.Bounds.{leastSheathResistance, mostResistance, leastSheathReactanceLow}
+use Rattle.formulas.specs.Laws.Bounds.{leastSheathResistance, mostResistance, leastSheathReactanceLow}
 use Rattle.formulas.specs.Laws.CloseInverse.{tera-th, inverse-close}
 use Rattle.formulas.specs.Laws.OverT.{quotient-close}
 

@@ -33,7 +33,7 @@ use Rattle.formulas.specs.Sheath.{
 }
 use Rattle.formulas.specs.Laws.Ranges.{In}
 use Rattle.formulas.specs.Laws.LogRange.{tera>0}
-use Rattle.formulas.specs.Bounds.{leastSheathResistance, mostResistance, leastSheathReactance}
+use Rattle.formulas.specs.Laws.Bounds.{leastSheathResistance, mostResistance, leastSheathReactance}
 
 -- The steps that both kinds of loss share: a ratio over T, its square, and u/(1 + u).
 

@@ -20,7 +20,7 @@ use Rattle.formulas.specs.Laws.LogEndsGap.{log-gap}
 use Rattle.formulas.specs.Laws.Ranges.{In, reactance-range}
 use Rattle.formulas.specs.Laws.CloseReactance.{reactance-close}
 use Rattle.formulas.specs.Laws.LogRange.{tera>0}
-use Rattle.formulas.specs.Bounds.{leastReactance, leastSpacingLog, leastSheathReactance}
+use Rattle.formulas.specs.Laws.Bounds.{leastReactance, leastSpacingLog, leastSheathReactance}
 use Rattle.formulas.specs.Laws.Between.{between-below}
 
 -- 2s/d is at least 2, so its logarithm has an octave

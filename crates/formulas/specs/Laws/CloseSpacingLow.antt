@@ -20,7 +20,7 @@ use Rattle.formulas.specs.Laws.LogEndsGap.{log-gap}
 use Rattle.formulas.specs.Laws.Ranges.{In}
 use Rattle.formulas.specs.Laws.CloseSpacing.{octaves-least, zero-and-zero}
 use Rattle.formulas.specs.Laws.LogRange.{tera>0}
-use Rattle.formulas.specs.Bounds.{leastSheathReactanceLow}
+use Rattle.formulas.specs.Laws.Bounds.{leastSheathReactanceLow}
 use Rattle.formulas.specs.Laws.Between.{between-above}
 
 reactanceLow-close : {π : Fraction} {f : ℕ} → IsPi π → In 1000 6500 f → Within 40 (whole 0) (whole (reactanceLow f)) (reactance* π f)

@@ -13,7 +13,7 @@ use Rattle.exact.specs.Laws.Error.{within-weaken, within-trans, within-absorb, 
 use Rattle.exact.specs.Laws.RoundingError.{within-up}
 use Rattle.exact.specs.Trillion.{trillion}
 use Rattle.formulas.specs.Rating.{unitRise, unitRise*}
-use Rattle.formulas.specs.Bounds.{leastConductorResistance, leastUnitRise}
+use Rattle.formulas.specs.Laws.Bounds.{leastConductorResistance, leastUnitRise}
 
 -- the rise across one thermal resistance t
 part-close :

@@ -11,7 +11,7 @@ use Rattle.exact.specs.Trillion.{trillion}
 use Rattle.formulas.specs.Constants.{tera, ln2Low, ln2High}
 use Rattle.formulas.specs.Logarithm.{doubled, series, firstPower, termCount, thirteenTerms, logLow, logHigh}
 use Rattle.formulas.specs.Laws.LogRange.{mostPower≤tera, up-bounded, down-bounded, power-most, firstPower-most, octaves-most}
-use Rattle.formulas.specs.Bounds.{mostPower}
+use Rattle.formulas.specs.Laws.Bounds.{mostPower}
 
 -- the next power, where the two factors differ by c and by e
 power-gap :

@@ -12,7 +12,7 @@ use Rattle.exact.specs.Trillion.{trillion}
 use Rattle.formulas.specs.Constants.{tera, ln2Low, ln2High}
 use Rattle.formulas.specs.Logarithm.{octaves, doubled, series, firstPower, termCount, thirteenTerms, logLow, logHigh}
 use Rattle.formulas.specs.Laws.Octaves.{Largest, octaves-largest}
-use Rattle.formulas.specs.Bounds.{mostPower, mostTerms, mostLog, leastInsulationLog}
+use Rattle.formulas.specs.Laws.Bounds.{mostPower, mostTerms, mostLog, leastInsulationLog}
 
 pub tera>0 : 0 < tera
 unfolding tera

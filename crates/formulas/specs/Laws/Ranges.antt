@@ -33,7 +33,7 @@ use Rattle.formulas.specs.Dielectric.{dielectricResistance, dielectricRi
 use Rattle.formulas.specs.Rating.{unitRise}
 use Rattle.formulas.specs.Laws.Temperature.{FactorRange, temperatureFactor-range}
 use Rattle.formulas.specs.Laws.LogRange.{logHigh-most, logLow-most}
-use Rattle.formulas.specs.Bounds.{
+use Rattle.formulas.specs.Laws.Bounds.{
   leastConductorResistance,
   leastSheathResistance,
   mostResistance,

@@ -7,7 +7,7 @@ use Rattle.exact.specs.Fraction.{Fraction, whole}
 use Rattle.exact.specs.Laws.Fraction.{whole-mono, ≤F-refl}
 use Rattle.exact.specs.Error.{Within}
 use Rattle.exact.specs.Laws.Error.{within-refl, within-weaken}
-use Rattle.formulas.specs.Bounds.{leastConductorResistance, mostAcResistance, mostArmourLoss, mostDielectricRise, mostSheathLoss}
+use Rattle.formulas.specs.Laws.Bounds.{leastConductorResistance, mostAcResistance, mostArmourLoss, mostDielectricRise, mostSheathLoss}
 use Rattle.formulas.specs.Laws.Ranges.{In, dielectricRise-most}
 use Rattle.fields.specs.Fields as Field
 use Rattle.rating.specs.Chosen.{Chosen}

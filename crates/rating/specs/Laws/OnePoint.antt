@@ -9,7 +9,7 @@ use Rattle.exact.specs.Fraction.{whole}
 use Rattle.exact.specs.Laws.Fraction.{whole-mono}
 use Rattle.exact.specs.Error.{Within}
 use Rattle.exact.specs.Laws.Error.{within-weaken}
-use Rattle.formulas.specs.Bounds.{mostSheathLoss}
+use Rattle.formulas.specs.Laws.Bounds.{mostSheathLoss}
 use Rattle.formulas.specs.Sheath.{eddyLoss, eddyLoss*}
 use Rattle.formulas.specs.Laws.Ranges.{In, eddyLoss-most}
 use Rattle.formulas.specs.Laws.CloseEddy.{eddy-close}

@@ -8,7 +8,7 @@ use lib.Dec.{lit≤}
 use lib.IntN.{ℤ, pos, negsuc, negℤ}
 use lib.Signed.{_≤ℤ_}
 use Rattle.formulas.specs.Refusals.{skinLimit}
-use Rattle.formulas.specs.Bounds.{
+use Rattle.formulas.specs.Laws.Bounds.{
   leastConductorResistance,
   leastInsulationLog,
   leastReactance,

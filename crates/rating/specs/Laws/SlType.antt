@@ -10,7 +10,7 @@ use Rattle.exact.specs.Fraction.{whole}
 use Rattle.exact.specs.Laws.Fraction.{whole-mono}
 use Rattle.exact.specs.Error.{Within}
 use Rattle.exact.specs.Laws.Error.{within-weaken}
-use Rattle.formulas.specs.Bounds.{leastSheathResistance, mostArmourLoss, mostResistance}
+use Rattle.formulas.specs.Laws.Bounds.{leastSheathResistance, mostArmourLoss, mostResistance}
 use Rattle.formulas.specs.Sheath.{slLoss, slLoss*}
 use Rattle.formulas.specs.Armour.{armourLoss, armourLoss*}
 use Rattle.formulas.specs.Laws.Ranges as Law

@@ -4,7 +4,7 @@ use mathlib.Core.List.{List}
 use Prim.Native.Nat.{ℕ, _≤_}
 use Rattle.exact.specs.Fraction.{whole}
 use Rattle.exact.specs.Error.{Within}
-use Rattle.formulas.specs.Bounds.{leastUnitRise, mostUnitRise}
+use Rattle.formulas.specs.Laws.Bounds.{leastUnitRise, mostUnitRise}
 use Rattle.formulas.specs.Laws.Ranges.{In, unitRise-least, unitRise-most}
 use Rattle.formulas.specs.Laws.CloseUnitRise.{unitRise-close}
 use Rattle.fields.specs.Fields as Field

@@ -7,7 +7,7 @@ use Rattle.exact.specs.Trillion.{trillion}
 use Rattle.formulas.specs.Constants.{tera}
 use Rattle.formulas.specs.Armour.{armourRatio, armourRatioSquared, reducedArmourResistance}
 use Rattle.formulas.specs.Laws.LogRange.{down-bounded}
-use Rattle.formulas.specs.Bounds.{mostResistance, mostArmourRatio, mostArmourRatioSquared}
+use Rattle.formulas.specs.Laws.Bounds.{mostResistance, mostArmourRatio, mostArmourRatioSquared}
 use Rattle.stages.proofs.Quotients.{fits-up, fits-down, square-most, square-fits}
 use Rattle.stages.proofs.armour.reduced_armour_resistance.Statement.{statement}
 use Rattle.stages.proofs.armour.reduced_armour_resistance.Tie as tie

@@ -9,7 +9,7 @@ use Rattle.exact.specs.Trillion.{trillion}
 use Rattle.formulas.specs.Constants.{tera}
 use Rattle.formulas.specs.Armour.{screeningRatioSquared, screenedLoss}
 use Rattle.formulas.specs.Laws.Ranges.{screeningRatioSquared-most, screening-most}
-use Rattle.formulas.specs.Bounds.{mostBondRatioSquared, mostArmourLoss}
+use Rattle.formulas.specs.Laws.Bounds.{mostBondRatioSquared, mostArmourLoss}
 use Rattle.stages.proofs.Quotients.{fits-up}
 use Prim.Native.Nat.{ℕ, _+_, _*_, _≤_}
 use Rattle.stages.proofs.armour.screened_loss.Statement.{statement}

@@ -7,7 +7,7 @@ use Rattle.exact.specs.Trillion.{trillion}
 use Rattle.formulas.specs.Constants.{tera}
 use Rattle.formulas.specs.Armour.{screeningRatioSquared}
 use Rattle.formulas.specs.Laws.LogRange.{down-bounded}
-use Rattle.formulas.specs.Bounds.{mostBondRatio, mostBondRatioSquared}
+use Rattle.formulas.specs.Laws.Bounds.{mostBondRatio, mostBondRatioSquared}
 use Rattle.stages.proofs.Quotients.{fits-down, square-fits}
 use Rattle.stages.proofs.armour.screening_ratio_squared.Statement.{statement}
 use Rattle.stages.proofs.armour.screening_ratio_squared.Tie as tie

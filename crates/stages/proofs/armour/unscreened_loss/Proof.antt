@@ -9,7 +9,7 @@ use Rattle.exact.specs.Trillion.{trillion}
 use Rattle.formulas.specs.Constants.{tera}
 use Rattle.formulas.specs.Armour.{unscreenedLoss}
 use Rattle.formulas.specs.Laws.Ranges.{reducedArmourResistance-most, armourSpacing-most}
-use Rattle.formulas.specs.Bounds.{mostArmourLoss}
+use Rattle.formulas.specs.Laws.Bounds.{mostArmourLoss}
 use Rattle.stages.proofs.Quotients.{fits-up}
 use Prim.Native.Nat.{_*_, _≤_}
 use Rattle.stages.proofs.armour.unscreened_loss.Statement.{statement}

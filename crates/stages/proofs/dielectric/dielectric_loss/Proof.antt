@@ -3,7 +3,7 @@ use borrow.Author.Needs.{needs}
 use native.Mathlib.Omega.{arith}
 use native.Mathlib.Nat.{mul-le-mul}
 use Rattle.formulas.specs.Dielectric.{dielectricLoss}
-use Rattle.formulas.specs.Bounds.{mostDielectricLoss}
+use Rattle.formulas.specs.Laws.Bounds.{mostDielectricLoss}
 use Rattle.stages.proofs.Quotients.{fits-up}
 use Prim.Native.Nat.{_*_, _≤_}
 use Rattle.stages.proofs.dielectric.dielectric_loss.Statement.{statement}

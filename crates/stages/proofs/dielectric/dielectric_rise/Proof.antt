@@ -5,7 +5,7 @@ use native.Mathlib.Nat.{mul-le-mul}
 use lib.Dec.{lit<}
 use Rattle.formulas.specs.Dielectric.{dielectricResistance, dielectricRise}
 use Rattle.formulas.specs.Laws.Ranges.{dielectricResistance-most}
-use Rattle.formulas.specs.Bounds.{mostDielectricRise}
+use Rattle.formulas.specs.Laws.Bounds.{mostDielectricRise}
 use Rattle.stages.proofs.Quotients.{fits-up}
 use Prim.Native.Nat.{_+_, _*_, _≤_}
 use Rattle.stages.proofs.dielectric.dielectric_rise.Statement.{statement}

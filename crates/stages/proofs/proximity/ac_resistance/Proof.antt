@@ -5,7 +5,7 @@ use native.Mathlib.Nat.{mul-le-mul}
 use lib.Dec.{lit<}
 use Rattle.formulas.specs.Constants.{tera}
 use Rattle.formulas.specs.Proximity.{acResistance}
-use Rattle.formulas.specs.Bounds.{mostAcResistance}
+use Rattle.formulas.specs.Laws.Bounds.{mostAcResistance}
 use Rattle.stages.proofs.Quotients.{fits-up}
 use Prim.Native.Nat.{_+_, _≤_}
 use Rattle.exact.specs.Trillion.{trillion}

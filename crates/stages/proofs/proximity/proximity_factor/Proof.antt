@@ -9,7 +9,7 @@ use Rattle.exact.specs.Trillion.{trillion}
 use Rattle.formulas.specs.Constants.{tera}
 use Rattle.formulas.specs.Proximity.{proximityFactor}
 use Rattle.formulas.specs.Laws.Ranges.{proximityG-most, proximityH-most}
-use Rattle.formulas.specs.Bounds.{mostProximityFactor}
+use Rattle.formulas.specs.Laws.Bounds.{mostProximityFactor}
 use Rattle.stages.proofs.Quotients.{fits-up}
 use Prim.Native.Nat.{_+_, _*_, _≤_}
 use Rattle.stages.proofs.proximity.proximity_factor.Statement.{statement}

@@ -7,7 +7,7 @@ use Rattle.exact.specs.Trillion.{trillion}
 use Rattle.formulas.specs.Constants.{tera}
 use Rattle.formulas.specs.Sheath.{bondRatio, bondRatioSquared}
 use Rattle.formulas.specs.Laws.LogRange.{up-bounded}
-use Rattle.formulas.specs.Bounds.{mostBondRatio, mostBondRatioSquared}
+use Rattle.formulas.specs.Laws.Bounds.{mostBondRatio, mostBondRatioSquared}
 use Rattle.stages.proofs.Quotients.{fits-up, square-fits}
 use Rattle.stages.proofs.sheath.bond_ratio_squared.Statement.{statement}
 use Rattle.stages.proofs.sheath.bond_ratio_squared.Tie as tie

@@ -8,7 +8,7 @@ use Rattle.exact.specs.Trillion.{trillion}
 use Rattle.formulas.specs.Constants.{tera}
 use Rattle.formulas.specs.Sheath.{circulatingLoss}
 use Rattle.formulas.specs.Laws.Ranges.{bondRatio-most, bondRatioSquared-most}
-use Rattle.formulas.specs.Bounds.{mostResistance, mostBondRatioSquared}
+use Rattle.formulas.specs.Laws.Bounds.{mostResistance, mostBondRatioSquared}
 use Rattle.stages.proofs.Quotients.{fits-up}
 use Prim.Native.Nat.{_+_, _*_, _≤_}
 use Rattle.stages.proofs.sheath.circulating_loss.Statement.{statement}

@@ -9,7 +9,7 @@ use Rattle.formulas.specs.Constants.{tera}
 use Rattle.formulas.specs.Sheath.{eddyRatio, eddyRatioSquared, eddyFactor}
 use Rattle.formulas.specs.Laws.LogRange.{up-bounded}
 use Rattle.formulas.specs.Laws.Ranges.{eddyRatio-most, eddyRatioSquared-most}
-use Rattle.formulas.specs.Bounds.{mostEddyRatio, mostEddyFactor}
+use Rattle.formulas.specs.Laws.Bounds.{mostEddyRatio, mostEddyFactor}
 use Rattle.stages.proofs.Quotients.{fits-up, square-fits}
 use Rattle.stages.proofs.sheath.eddy_factor.Statement.{statement}
 use Rattle.stages.proofs.sheath.eddy_factor.Tie as tie

@@ -10,7 +10,7 @@ use Rattle.exact.specs.Trillion.{trillion}
 use Rattle.formulas.specs.Constants.{tera}
 use Rattle.formulas.specs.Sheath.{eddyLoss}
 use Rattle.formulas.specs.Laws.Ranges.{eddyFactor-most, eddySpacing-most}
-use Rattle.formulas.specs.Bounds.{mostEddySpacing, mostEddyInner, mostEddyFactor}
+use Rattle.formulas.specs.Laws.Bounds.{mostEddySpacing, mostEddyInner, mostEddyFactor}
 use Rattle.stages.proofs.Quotients.{fits-up}
 use Prim.Native.Nat.{_*_, _≤_}
 use Rattle.stages.proofs.sheath.eddy_loss.Statement.{statement}

@@ -3,7 +3,7 @@ use native.Mathlib.Omega.{arith}
 use native.Mathlib.Nat.{mul-le-mul, mul-pos}
 use Rattle.formulas.specs.Constants.{tera}
 use Rattle.formulas.specs.Sheath.{eddySpacing}
-use Rattle.formulas.specs.Bounds.{mostEddySpacing}
+use Rattle.formulas.specs.Laws.Bounds.{mostEddySpacing}
 use Rattle.stages.proofs.Quotients.{fits-up}
 use Rattle.stages.proofs.sheath.eddy_spacing.Statement.{statement}
 use Rattle.stages.proofs.sheath.eddy_spacing.Tie as tie

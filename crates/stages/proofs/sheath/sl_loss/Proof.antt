@@ -6,7 +6,7 @@ use Rattle.exact.specs.Rounding.{up}
 use Rattle.exact.specs.Laws.Rounding.{up-code}
 use Rattle.formulas.specs.Sheath.{threeHalves, slLoss}
 use Rattle.formulas.specs.Laws.Ranges.{circulatingLoss-most}
-use Rattle.formulas.specs.Bounds.{mostResistance}
+use Rattle.formulas.specs.Laws.Bounds.{mostResistance}
 use Prim.Native.Nat.{_*_, _≤_}
 use Rattle.stages.proofs.sheath.sl_loss.Statement.{statement}
 use Rattle.stages.proofs.sheath.sl_loss.Tie as tie

@@ -9,7 +9,7 @@ use Rattle.exact.specs.Trillion.{trillion}
 use Rattle.formulas.specs.Constants.{tera}
 use Rattle.formulas.specs.Skin.{skinRatioSquared, factor}
 use Rattle.formulas.specs.Laws.Ranges.{skinRatioSquared-most}
-use Rattle.formulas.specs.Bounds.{mostSkinRatioSquared}
+use Rattle.formulas.specs.Laws.Bounds.{mostSkinRatioSquared}
 use Rattle.stages.proofs.Quotients.{fits-up}
 use Prim.Native.Nat.{_+_, _*_, _≤_}
 use Rattle.stages.proofs.skin.factor.Statement.{statement}

@@ -7,7 +7,7 @@ use Rattle.exact.specs.Trillion.{trillion}
 use Rattle.formulas.specs.Constants.{tera}
 use Rattle.formulas.specs.Skin.{skinRatio}
 use Rattle.formulas.specs.Laws.Ranges.{skinReactance-most}
-use Rattle.formulas.specs.Bounds.{mostSkinReactance}
+use Rattle.formulas.specs.Laws.Bounds.{mostSkinReactance}
 use Rattle.stages.proofs.Quotients.{fits-up}
 use Prim.Native.Nat.{_*_, _≤_}
 use Rattle.stages.proofs.skin.skin_ratio.Statement.{statement}

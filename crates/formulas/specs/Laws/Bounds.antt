@@ -1,4 +1,4 @@
--- How large and how small the stages' numbers get within the limits of the fields (docs/FIELDS.md), as the code of the stages requires
+-- How large and how small the stages' numbers get within the limits of the fields (docs/RATING.md), as the code of the stages requires
 -- and the laws use. Each is a plain number with a name; that it bounds what it is named for is proved in Laws.Ranges and Laws.LogRange,
 -- or where `stages` uses it. Assumes nothing.
 use Prim.Native.Nat.{ℕ}

@@ -11,7 +11,9 @@ use Rattle.stages.proofs.spacing.spacing_log_high.Tie as tie
 
 returns : tie.Need-returns
 unfolding spacingLogHigh ln2ThirdHigh
-returns c = c .with-third .ensures ∙ ap (λ log. log + thirdOf (c .before .before .args .arrangement) 231049060187) (c .before .log-high .ensures)
+returns c =
+    c .with-third .ensures
+    ∙ ap (λ log. log + thirdOf (c .before .before .args .arrangement) 231049060187) (c .before .log-high .ensures)
 
 pub spacing-log-high-spec : {M : Type 1} → statement M
 spacing-log-high-spec =

@@ -11,7 +11,9 @@ use Rattle.stages.proofs.spacing.spacing_log_low.Tie as tie
 
 returns : tie.Need-returns
 unfolding spacingLogLow ln2ThirdLow
-returns c = c .with-third .ensures ∙ ap (λ log. log + thirdOf (c .before .before .args .arrangement) 231049060186) (c .before .log-low .ensures)
+returns c =
+    c .with-third .ensures
+    ∙ ap (λ log. log + thirdOf (c .before .before .args .arrangement) 231049060186) (c .before .log-low .ensures)
 
 pub spacing-log-low-spec : {M : Type 1} → statement M
 spacing-log-low-spec =

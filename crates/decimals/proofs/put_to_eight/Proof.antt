@@ -4,7 +4,7 @@ use mathlib.Core.Path.{sym}
 use Prim.Native.Nat.{_/_, _%_}
 use native.Mathlib.Omega.{arith}
 use borrow.Author.Needs.{needs}
-use Rattle.splice.specs.Put.{put-as, put-then}
+use Rattle.splice.specs.Laws.Put.{put-as, put-then}
 use Rattle.decimals.specs.Decimal.{decimal}
 use Rattle.decimals.specs.DecimalLaws.{count-below, decimal-split, padded}
 use Rattle.decimals.proofs.put_to_eight.Statement.{statement}

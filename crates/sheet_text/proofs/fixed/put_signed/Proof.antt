@@ -7,7 +7,7 @@ use native.Mathlib.Omega.{arith}
 use borrow.Author.Needs.{needs}
 use Rattle.splice.specs.Splice.{splice}
 use Rattle.sheet_text.specs.Fixed.{fixed, signed}
-use Rattle.splice.specs.Laws.{splice-after}
+use Rattle.splice.specs.Laws.Splice.{splice-after}
 use Rattle.sheet_text.proofs.fixed.put_signed.Statement.{statement}
 use Rattle.sheet_text.proofs.fixed.put_signed.Tie as tie
 

@@ -25,14 +25,16 @@ use rating::rate::rate;
 // Writes the record of a case at `at`, and the trailer of a book of `count` records after it.
 fn put_record(buffer: &mut [u8], at: usize, x: Case, count: u32)
     requires { ⌜ (at + (recordLength rbk1 + trailerLength rbk1) ≤ length (now buffer)) × (count ≤ rbk1 .most) ⌝ }
-    ensures { λ _. ⌜ now (buffer .exit) ≡ splice (now (buffer .entry)) at (recordBytes rbk1 x ++ trailerBytes rbk1 count) ⌝ }
+    ensures { λ _. ⌜ now (buffer .exit)
+        ≡ splice (now (buffer .entry)) at (recordBytes rbk1 x ++ trailerBytes rbk1 count) ⌝ }
 {
     let a = rate(x);
     put_fields(buffer, at, fields_of(x, a.answer, a.rating));
     put_trailer(buffer, at + RECORD_LENGTH, count);
 }
 
-// Append's own refusals: 25 of a book that has the most records, then 24 where the buffer has no room for a record more; or 0.
+// Append's own refusals: 25 of a book that has the most records, then 24 where the buffer has no
+// room for a record more; or 0.
 fn own_refusal(count: usize, left: usize) -> u32
     ensures { λ r. ⌜ r ≡ cond (leb (rbk1 .most) count) 25 (cond (ltb left (recordLength rbk1)) 24 0) ⌝ }
 {

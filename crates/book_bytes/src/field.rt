@@ -13,7 +13,7 @@ fn join(a: u8, b: u8, c: u8, d: u8) -> u32
     a as u32 * 16777216 + b as u32 * 65536 + c as u32 * 256 + d as u32
 }
 
-pub fn word_at(buffer: &[u8], at: usize) -> u32
+pub(crate) fn word_at(buffer: &[u8], at: usize) -> u32
     requires { ⌜ at + 4 ≤ length (now buffer) ⌝ }
     ensures { λ r. ⌜ r ≡ wordAt (now (buffer .entry)) at ⌝ }
 {

@@ -1,5 +1,5 @@
-// The layout RBK1 (`rbk1` in `book_laws`) as the code has it: the mark, how many fields and bytes a record and a trailer have, where a
-// number stands in them, and the most records of a book.
+// The layout RBK1 (`rbk1` in `book_laws`) as the code has it: the mark, how many fields and bytes a
+// record and a trailer have, where a number stands in them, and the most records of a book.
 use fields::WIDTH;
 
 pub const MARK: [u8; 4] = *b"RBK1";

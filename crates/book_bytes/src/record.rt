@@ -32,8 +32,8 @@ fn read_words(buffer: &[u8], at: usize, words: &mut [u32])
 }
 
 // The case of the record at `at`.
-pub fn case_at(buffer: &[u8], at: usize) -> Case
-    requires { ⌜ at + recordLength rbk1 ≤ length (now buffer) ⌝ }
+fn case_at(buffer: &[u8], at: usize) -> Case
+    requires { ⌜ at + 4 * rbk1 .inputs ≤ length (now buffer) ⌝ }
     ensures { λ r. ⌜ r ≡ caseAt rbk1 (now (buffer .entry)) at ⌝ }
 {
     let mut x = [0u32; WIDTH];

@@ -2,7 +2,7 @@
 use mathlib.Core.List.{List}
 use Prim.Native.Nat.{ℕ}
 use Rattle.book_laws.specs.Layout.{Layout, rbk1}
-use Rattle.book_laws.specs.Trailer.{Description, describeIn, onBookIn}
+use Rattle.book_laws.specs.Trailer.{Description, describeIn}
 use Rattle.book_laws.specs.Record.{placeFrom}
 use Rattle.book_laws.specs.Start.{Written, startIn}
 use Rattle.book_laws.specs.Append.{appendIn}
@@ -20,9 +20,6 @@ newLayout = rbk1
 
 abbrev pub describe : List ℕ → ℕ → Description
 describe b used = describeIn (layoutOf b used) b used
-
-abbrev pub onBook : {A : Type 0} → List ℕ → ℕ → (ℕ → A) → (Description → A) → A
-onBook b used refuse go-on = onBookIn (layoutOf b used) b used refuse go-on
 
 abbrev pub startOf : List ℕ → ℕ → Written
 startOf b note = startIn newLayout b note

@@ -1,17 +1,24 @@
-// Prints the listing of document 01's example, a book without a note and with one case of 26 zeros, and of a book for each of the refusals
-// 20, 21, 22 and 23: a used length past the buffer, and the example with one byte changed.
+// Prints the listing of a small book, without a note and with one case of zeros, and of a book for each
+// of the refusals 20, 21, 22 and 23: a used length past the buffer, and the small book with one byte
+// changed.
 ghost use mathlib.Core.Path.{_≡_};
 ghost use lib.ListN.{length};
 use book::append::append;
 use book::start::start;
+use book_bytes::layout::RECORD_LENGTH;
+use book_bytes::layout::TRAILER_LENGTH;
+use fields::WIDTH;
 use list_text::list_book;
 use output::send;
+
+// The used length of the small book.
+const USED: usize = RECORD_LENGTH + TRAILER_LENGTH;
 
 fn write_example(book: &mut [u8])
     ensures { λ _. ⌜ length (now (book .exit)) ≡ length (now (book .entry)) ⌝ }
 {
     let started = start(book, 0);
-    append(book, started.used, [0; 26]);
+    append(book, started.used, [0; WIDTH]);
 }
 
 fn change(book: &mut [u8], at: usize, byte: u8)
@@ -44,12 +51,12 @@ fn show(book: &[u8; 65536], used: usize) {
 
 fn main() {
     let sound = example();
-    show(&sound, 128);
+    show(&sound, USED);
     show(&sound, 65537);
-    let unmarked = changed_example(112, 0);
-    show(&unmarked, 128);
-    let another_length = changed_example(127, 113);
-    show(&another_length, 128);
-    let another_rating = changed_example(111, 1);
-    show(&another_rating, 128);
+    let unmarked = changed_example(RECORD_LENGTH, 0);
+    show(&unmarked, USED);
+    let another_length = changed_example(USED - 1, 113);
+    show(&another_length, USED);
+    let another_rating = changed_example(RECORD_LENGTH - 1, 1);
+    show(&another_rating, USED);
 }

@@ -1,5 +1,5 @@
-// Reads a book of at most 65536 bytes from standard input and prints its listing. What is printed is `list_text::list_book`; here are the
-// buffers, the reading and the writing.
+// Reads a book of at most 65536 bytes from standard input and prints its listing. What is printed is
+// `list_text::list_book`; here are the buffers, the reading and the writing.
 ghost use Prim.Native.Nat.{_≤_};
 use libc::STDIN_FILENO;
 use output::send;

@@ -1,5 +1,6 @@
-// The listing of a book: what the program `list` prints. Each function that puts text writes into `out` from `at` on, and answers the place
-// after what it wrote. A bound on that place shows that the next one has room.
+// The listing of a book: what the program `list` prints. Each function that puts text writes into
+// `out` from `at` on, and answers the place after what it wrote. A bound on that place shows that the
+// next one has room.
 ghost use mathlib.Core.List.{[], _∷_, _++_};
 ghost use mathlib.Core.Path.{_≡_};
 ghost use Prim.Native.Nat.{_+_, _*_, _≤_, _<_};
@@ -9,6 +10,7 @@ ghost use Rattle.book_laws.specs.Book.{acceptOf, Differs};
 ghost use Rattle.book_laws.specs.Layout.{rbk1, recordLength};
 ghost use Rattle.book_laws.specs.Record.{placeFrom};
 ghost use Rattle.list_text.specs.Listing.{recordLine, recordLines, listingFor, listingOf};
+ghost use Rattle.splice.specs.Put.{Put};
 ghost use Rattle.splice.specs.Splice.{splice};
 ghost use Rattle.decimals.specs.Decimal.{decimal, written};
 use book::accept::Acceptance;
@@ -24,8 +26,8 @@ use text::bytes::put_bytes;
 // A word or two, a number and a line feed.
 fn put_line(out: &mut [u8], at: usize, words: &[u8], number: u64) -> usize
     requires { ⌜ at + length (now words) + 21 ≤ length (now out) ⌝ }
-    ensures { λ r. ⌜ (r ≡ at + length (now (words .entry) ++ decimal number ++ (10 ∷ [])))
-        × (now (out .exit) ≡ splice (now (out .entry)) at (now (words .entry) ++ decimal number ++ (10 ∷ []))) ⌝ }
+    ensures { λ r. ⌜ Put (now (out .entry)) at (now (words .entry) ++ decimal number ++ (10 ∷ []))
+        (now (out .exit)) r ⌝ }
     ensures { λ r. ⌜ r ≤ at + length (now (words .entry)) + 21 ⌝ }
 {
     let digits = put_bytes(out, at, words);
@@ -36,8 +38,8 @@ fn put_line(out: &mut [u8], at: usize, words: &[u8], number: u64) -> usize
 // A record's number, answer and rating with a blank between them, and a line feed.
 fn put_numbers(out: &mut [u8], at: usize, number: u64, answer: u64, rating: u64) -> usize
     requires { ⌜ at + 63 ≤ length (now out) ⌝ }
-    ensures { λ r. ⌜ (r ≡ at + length (written (number ∷ answer ∷ rating ∷ []) ++ (10 ∷ [])))
-        × (now (out .exit) ≡ splice (now (out .entry)) at (written (number ∷ answer ∷ rating ∷ []) ++ (10 ∷ []))) ⌝ }
+    ensures { λ r. ⌜ Put (now (out .entry)) at (written (number ∷ answer ∷ rating ∷ []) ++ (10 ∷ []))
+        (now (out .exit)) r ⌝ }
     ensures { λ r. ⌜ r ≤ at + 63 ⌝ }
 {
     let first = put_decimal(out, at, number);
@@ -48,9 +50,9 @@ fn put_numbers(out: &mut [u8], at: usize, number: u64, answer: u64, rating: u64)
 
 // The line of record i, from 0, of a book whose first record stands at `first`.
 fn put_record(out: &mut [u8], at: usize, book: &[u8], first: usize, i: usize) -> usize
-    requires { ⌜ (at + 63 ≤ length (now out)) × (placeFrom rbk1 first i + recordLength rbk1 ≤ length (now book)) × (i < rbk1 .most) ⌝ }
-    ensures { λ r. ⌜ (r ≡ at + length (recordLine rbk1 (now (book .entry)) first i))
-        × (now (out .exit) ≡ splice (now (out .entry)) at (recordLine rbk1 (now (book .entry)) first i)) ⌝ }
+    requires { ⌜ (at + 63 ≤ length (now out)) × (placeFrom rbk1 first i + recordLength rbk1 ≤ length (now book))
+        × (i < rbk1 .most) ⌝ }
+    ensures { λ r. ⌜ Put (now (out .entry)) at (recordLine rbk1 (now (book .entry)) first i) (now (out .exit)) r ⌝ }
     ensures { λ r. ⌜ r ≤ at + 63 ⌝ }
 {
     let place = first + RECORD_LENGTH * i;
@@ -65,9 +67,10 @@ fn put_record(out: &mut [u8], at: usize, book: &[u8], first: usize, i: usize) ->
 
 // The lines of the first `count` records.
 fn put_records(out: &mut [u8], at: usize, book: &[u8], first: usize, count: usize) -> usize
-    requires { ⌜ (at + 63 * count ≤ length (now out)) × (placeFrom rbk1 first count ≤ length (now book)) × (count ≤ rbk1 .most) ⌝ }
-    ensures { λ r. ⌜ (r ≡ at + length (recordLines rbk1 (now (book .entry)) first count))
-        × (now (out .exit) ≡ splice (now (out .entry)) at (recordLines rbk1 (now (book .entry)) first count)) ⌝ }
+    requires { ⌜ (at + 63 * count ≤ length (now out)) × (placeFrom rbk1 first count ≤ length (now book))
+        × (count ≤ rbk1 .most) ⌝ }
+    ensures { λ r. ⌜ Put (now (out .entry)) at (recordLines rbk1 (now (book .entry)) first count)
+        (now (out .exit)) r ⌝ }
     ensures { λ r. ⌜ r ≤ at + 63 * count ⌝ }
 {
     let mut end = at;
@@ -105,12 +108,13 @@ pub struct Listed {
     pub named: usize,
 }
 
-// Writes the listing of a book at the front of `out`, which has room for that of any book in 65536 bytes. A used length over 65536 is
-// refused by 20.
+// Writes the listing of a book at the front of `out`, which has room for that of any book in 65536
+// bytes. A used length over 65536 is refused by 20.
 pub fn list_book(book: &[u8; 65536], used: usize, out: &mut [u8; 65536]) -> Listed
     ensures { λ r. ⌜ (r .len ≡ length (listingOf (now (book .entry)) used (r .named)))
         × (now (out .exit) ≡ splice (now (out .entry)) 0 (listingOf (now (book .entry)) used (r .named))) ⌝ }
-    ensures { λ r. ⌜ (acceptOf (now (book .entry)) used (r .named) .number ≡ 23 → Differs (now (book .entry)) used (r .named)) ⌝ }
+    ensures { λ r. ⌜ (acceptOf (now (book .entry)) used (r .named) .number ≡ 23
+        → Differs (now (book .entry)) used (r .named)) ⌝ }
     ensures { λ r. ⌜ (r .len ≤ 65536) × (65536 ≡ length (now (out .exit))) ⌝ }
 {
     let a = accept(book, used);

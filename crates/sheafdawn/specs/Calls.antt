@@ -1,5 +1,5 @@
--- What each C function answers and leaves behind its slices: the operation's answer, or 2^32 - 1 and every slice as it was, where a slice has a
--- wrong length. Assumes nothing.
+-- What each C function answers and leaves behind its slices: the operation's answer, or 2^32 - 1 and every slice as it was, where a slice
+-- has a wrong length. Assumes nothing.
 use mathlib.Core.Bool.{cond}
 use mathlib.Core.List.{List, [], _∷_}
 use Prim.Native.Nat.{ℕ}

@@ -1,5 +1,6 @@
-// The proved functions under C's calling convention, for programs in C and Rust: numbers and slices only, and no logic. A slice of a wrong
-// length is refused by WRONG_LENGTH, and then nothing is written. The header is include/sheafdawn.h, the Rust wrapper rust/sheafdawn.rs.
+// The proved functions under C's calling convention, for programs in C and Rust: numbers and slices
+// only, and no logic. A slice of a wrong length is refused by WRONG_LENGTH, and then nothing is
+// written. The header is include/sheafdawn.h, the Rust wrapper rust/sheafdawn.rs.
 mod copy;
 
 ghost use mathlib.Core.Path.{_≡_};
@@ -19,7 +20,8 @@ use rating::rate::rate;
 
 pub const WRONG_LENGTH: u32 = 4294967295;
 
-// Rates a case of 26 words. `out` gets 14 numbers: the rating in mA and the sheet. Answers 0 or the refusal's number.
+// Rates a case of 26 words. `out` gets 14 numbers: the rating in mA and the sheet. Answers 0 or the
+// refusal's number.
 #[no_mangle]
 pub extern "C" fn sheafdawn_rate(case: &[u32], out: &mut [u64]) -> u32
     ensures { λ r. ⌜ call r (now (out .exit)) ≡ rateCall (now (case .entry)) (now (out .entry)) ⌝ }
@@ -37,10 +39,12 @@ pub extern "C" fn sheafdawn_rate(case: &[u32], out: &mut [u64]) -> u32
     a.answer
 }
 
-// Starts a book after a note of `note` bytes. `out` gets one number, the used length. Answers 0 or the refusal's number.
+// Starts a book after a note of `note` bytes. `out` gets one number, the used length. Answers 0 or the
+// refusal's number.
 #[no_mangle]
 pub extern "C" fn sheafdawn_start(buffer: &mut [u8], note: usize, out: &mut [usize]) -> u32
-    ensures { λ r. ⌜ bookCall r (now (buffer .exit)) (now (out .exit)) ≡ startCall (now (buffer .entry)) note (now (out .entry)) ⌝ }
+    ensures { λ r. ⌜ bookCall r (now (buffer .exit)) (now (out .exit))
+        ≡ startCall (now (buffer .entry)) note (now (out .entry)) ⌝ }
 {
     if out.len() != 1 {
         return WRONG_LENGTH;
@@ -50,7 +54,8 @@ pub extern "C" fn sheafdawn_start(buffer: &mut [u8], note: usize, out: &mut [usi
     started.number
 }
 
-// Appends a case of 26 words to a book. `out` gets one number, the new used length. Answers 0 or the refusal's number.
+// Appends a case of 26 words to a book. `out` gets one number, the new used length. Answers 0 or the
+// refusal's number.
 #[no_mangle]
 pub extern "C" fn sheafdawn_append(
     buffer: &mut [u8],
@@ -72,7 +77,8 @@ pub extern "C" fn sheafdawn_append(
     appended.number
 }
 
-// Reads a record by its index from 0. `out` gets 28 words: the inputs, the answer and the rating. Answers 0 or the refusal's number.
+// Reads a record by its index from 0. `out` gets 28 words: the inputs, the answer and the rating.
+// Answers 0 or the refusal's number.
 #[no_mangle]
 pub extern "C" fn sheafdawn_read(buffer: &[u8], used: usize, index: usize, out: &mut [u32]) -> u32
     ensures { λ r. ⌜ call r (now (out .exit)) ≡ readCall (now (buffer .entry)) used index (now (out .entry)) ⌝ }
@@ -86,10 +92,12 @@ pub extern "C" fn sheafdawn_read(buffer: &[u8], used: usize, index: usize, out: 
     found.number
 }
 
-// Accepts a book. `out` gets three numbers: the count, the note's length, and the record that 23 names. Answers 0 or the refusal's number.
+// Accepts a book. `out` gets three numbers: the count, the note's length, and the record that 23 names.
+// Answers 0 or the refusal's number.
 #[no_mangle]
 pub extern "C" fn sheafdawn_accept(buffer: &[u8], used: usize, out: &mut [usize]) -> u32
-    ensures { λ r. ⌜ (call r (now (out .exit)) ≡ acceptCall (now (buffer .entry)) used (getD (now (out .exit)) 2 0) (now (out .entry)))
+    ensures { λ r. ⌜ (call r (now (out .exit))
+        ≡ acceptCall (now (buffer .entry)) used (getD (now (out .exit)) 2 0) (now (out .entry)))
         × (r ≡ 23 → Differs (now (buffer .entry)) used (getD (now (out .exit)) 2 0)) ⌝ }
 {
     if out.len() != 3 {

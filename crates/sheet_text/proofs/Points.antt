@@ -11,7 +11,7 @@ use Rattle.decimals.specs.Decimal.{decimal, padded}
 use Rattle.decimals.specs.Laws.Decimal.{decimal-small, decimal-large}
 use Rattle.splice.specs.Splice.{splice}
 use Rattle.sheet_text.specs.Fixed.{fixed}
-use Rattle.splice.specs.Laws.{splice-after, splice-again}
+use Rattle.splice.specs.Laws.Splice.{splice-after, splice-again}
 
 -- a one in front keeps the zeros after it
 pub one-ahead : (d r : ℕ) → r < 10 ^ d → decimal (10 ^ d + r) ≡ 49 ∷ padded d r

@@ -1,5 +1,4 @@
--- A list with a part of it replaced, and parts written one after another. Assumes nothing.
+-- A list with a part of it replaced, and a part written; the laws stand in Laws. Assumes nothing.
 pub mod Splice
-pub mod Laws
 pub mod Put
-pub mod Instances
+pub mod Laws

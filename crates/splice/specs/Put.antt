@@ -1,32 +1,10 @@
--- Parts written one after another are their whole written at once: `Put`, what each function that writes ensures, and the laws by
--- which the functions' proofs join the parts. Assumes nothing.
-use mathlib.Core.List.{List, [], _++_}
-use mathlib.Core.Path.{_≡_, sym, ap, subst, _∙_}
-use Prim.Native.Nat.{ℕ, _+_, _≤_}
-use native.Mathlib.Nat.{add-assoc, add-zero}
-use lib.ListN.{length, length-append}
+-- A part written into a list: what each function that writes ensures. Assumes nothing.
+use mathlib.Core.List.{List}
+use mathlib.Core.Path.{_≡_}
+use Prim.Native.Nat.{ℕ, _+_}
+use lib.ListN.{length}
 use Rattle.splice.specs.Splice.{splice}
-use Rattle.splice.specs.Laws.{splice-nothing, splice-after}
 
 -- vs stands in l from `at` on, which makes l to m, and r is the place after it
 abbrev pub Put : List ℕ → ℕ → List ℕ → List ℕ → ℕ → Type 0
 Put l at vs m r = (r ≡ at + length vs) × (m ≡ splice l at vs)
-
-joined-length : (at : ℕ) (a b : List ℕ) → at + length a + length b ≡ at + length (a ++ b)
-joined-length at a b = add-assoc at (length a) (length b) ∙ ap (λ (n : ℕ). at + n) (sym (length-append a b))
-
-pub put-nothing : (l : List ℕ) (at : ℕ) → Put l at [] l at
-put-nothing l at = (sym (add-zero at), sym (splice-nothing l at))
-
-pub put-as : (l : List ℕ) (at : ℕ) {a b m : List ℕ} {r : ℕ} → a ≡ b → Put l at a m r → Put l at b m r
-put-as l at {a} {b} {m} {r} e h = subst (λ (w : List ℕ). Put l at w m r) e h
-
-pub put-then : (l : List ℕ) (at : ℕ) (a b : List ℕ) {m n : List ℕ} {p r : ℕ} → at ≤ length l → Put l at a m p → Put m p b n r
-    → Put l at (a ++ b) n r
-put-then l at a b {m} {n} {p} {r} h f g = (
-  g .0 ∙ ap (λ (k : ℕ). k + length b) (f .0) ∙ joined-length at a b,
-  g .1
-      ∙ ap (λ (t : List ℕ). splice t p b) (f .1)
-      ∙ ap (λ (k : ℕ). splice (splice l at a) k b) (f .0)
-      ∙ splice-after l at a b h,
-)

@@ -12,7 +12,7 @@ use lib.Seq.{append-snoc}
 use borrow.Author.Tests.{le-ltb, lt-leb, eqb-true, ltb-false, leb-false}
 use Rattle.bools.specs.Tests.{both, passed}
 use Rattle.splice.specs.Splice.{splice}
-use Rattle.splice.specs.Laws.{splice-over}
+use Rattle.splice.specs.Laws.Splice.{splice-over}
 use Rattle.book_laws.specs.Bytes.{below}
 use Rattle.book_laws.specs.Layout.{Layout, recordLength, trailerLength}
 use Rattle.book_laws.specs.Format.{recordBytes, recordsBytes, trailerBytes}

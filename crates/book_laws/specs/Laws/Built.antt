@@ -9,7 +9,7 @@ use lib.ListN.{length, take, drop, length-append}
 use lib.Seq.{length-take-le}
 use borrow.Author.Tests.{le-ltb, eq-eqb}
 use Rattle.splice.specs.Splice.{splice}
-use Rattle.splice.specs.Laws.{splice-length}
+use Rattle.splice.specs.Laws.Splice.{splice-length}
 use Rattle.book_laws.specs.Bytes.{numberBytes, numberAt, wordBytes, stands}
 use Rattle.book_laws.specs.Layout.{Layout, recordLength, trailerLength}
 use Rattle.book_laws.specs.Format.{recordsBytes, trailerBytes, countAt, distanceAt, lengthAt}

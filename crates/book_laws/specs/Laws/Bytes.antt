@@ -178,7 +178,9 @@ wordsBytes-read b at (suc n) e h =
 
 -- Fields in a loop: one more is written after the first ones, and read after them.
 
-pub wordsBytes-next : (ws : List ℕ) (i : ℕ) → i < length ws → wordsBytes (take i ws) ++ wordBytes (getD ws i 0) ≡ wordsBytes (take (i + 1) ws)
+pub wordsBytes-next :
+    (ws : List ℕ) (i : ℕ) → i < length ws →
+    wordsBytes (take i ws) ++ wordBytes (getD ws i 0) ≡ wordsBytes (take (i + 1) ws)
 unfolding wordsBytes
 wordsBytes-next ws i h =
     ap (λ (t : List ℕ). wordsBytes (take i ws) ++ t) (sym (append-nil (wordBytes (getD ws i 0))))

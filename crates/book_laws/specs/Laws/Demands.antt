@@ -27,7 +27,8 @@ module _ (b : List ℕ) (used k : ℕ) (bytes : below 256 b ≡ true) (none : ac
   pub rebuilt :
       let d = describe b used in
       (c : List ℕ) → used ≤ length c → take (d .first) c ≡ take (d .first) b →
-      build c (d .first) (casesAt (layoutOf b used) b (d .first) (d .count)) ≡ record { number = 0; used = used; bytes = take used b ++ drop used c }
+      build c (d .first) (casesAt (layoutOf b used) b (d .first) (d .count))
+      ≡ record { number = 0; used = used; bytes = take used b ++ drop used c }
   rebuilt = rebuiltIn rbk1-lawful b used k bytes none
 
   -- in a buffer as long as the book

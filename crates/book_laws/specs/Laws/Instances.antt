@@ -46,7 +46,8 @@ accepts = onBook-on rbk1 book 130 _ _ (sym described) refl ∙ simp record-agree
 
 built-again :
     let d = describe book 130 in
-    build (79 ∷ 75 ∷ replicate 128 0) (d .first) (casesAt rbk1 book (d .first) (d .count)) ≡ record { number = 0; used = 130; bytes = take 130 book }
+    build (79 ∷ 75 ∷ replicate 128 0) (d .first) (casesAt rbk1 book (d .first) (d .count))
+    ≡ record { number = 0; used = 130; bytes = take 130 book }
 unfolding describeIn describeAt wrongTrailer stands numberAt numberBytes wordsBytes trailerBytes below book
 built-again = rebuilt-whole book 130 0 refl (ap (λ a. a .number) accepts) (79 ∷ 75 ∷ replicate 128 0) refl refl
 

@@ -20,7 +20,8 @@ use Rattle.book_laws.specs.Laws.Trailer.{onBook-on}
 use Rattle.book_laws.specs.Laws.Record.{Judged, fields-are, judged, allAgree-each}
 use Rattle.book_laws.specs.Laws.Accept.{trailer-passed, accepted}
 
-module _ (l : Layout) (b : List ℕ) (used k : ℕ) (accepts : acceptIn l b used k .number ≡ 0) (i : ℕ) (is-record : i < describeIn l b used .count) where
+module _ (l : Layout) (b : List ℕ) (used k : ℕ) (accepts : acceptIn l b used k .number ≡ 0) (i : ℕ)
+    (is-record : i < describeIn l b used .count) where
   abbrev place-in : ℕ
   place-in = placeFrom l (describeIn l b used .first) i
 

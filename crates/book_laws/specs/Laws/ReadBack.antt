@@ -1,5 +1,5 @@
--- Demand 2: cases appended without refusal to a fresh book read back as they were, with their answers and ratings; accept finds no fault with
--- it; the note and all bytes past the book are untouched. Assumes nothing.
+-- Demand 2: cases appended without refusal to a fresh book read back as they were, with their answers and ratings; accept finds no fault
+-- with it; the note and all bytes past the book are untouched. Assumes nothing.
 use mathlib.Core.Bool.{true}
 use mathlib.Core.List.{List, [], _++_}
 use mathlib.Core.Path.{_≡_, refl, sym, ap₂, subst, _∙_}
@@ -7,13 +7,11 @@ use Prim.Native.Nat.{ℕ, _+_, _*_, _≤_, _<_}
 use native.Mathlib.Omega.{arith}
 use lib.ListN.{length, getD, drop, take}
 use borrow.Author.Tests.{lt-leb}
-use Rattle.splice.specs.Splice.{splice}
-use Rattle.splice.specs.Laws.{splice-before, splice-past}
+use Rattle.splice.specs.Laws.Splice.{splice-before, splice-past}
 use Rattle.book_laws.specs.Bytes.{wordsAt}
 use Rattle.book_laws.specs.Layout.{Layout, recordFields, recordLength}
 use Rattle.book_laws.specs.Format.{fieldsOf, recordsBytes}
 use Rattle.book_laws.specs.Record.{placeFrom, allAgree}
-use Rattle.book_laws.specs.Start.{Written}
 use Rattle.book_laws.specs.Read.{readAfter, readIn}
 use Rattle.book_laws.specs.Accept.{acceptAfter, acceptIn}
 use Rattle.book_laws.specs.Build.{allCases, buildIn}
@@ -42,7 +40,9 @@ module _ {l : Layout} (lawful : Lawful l) (b : List ℕ) (note : ℕ) (xs : List
 
     record-stands : (i : ℕ) → i < length xs → wordsAt book (placeFrom l note i) (recordFields l) ≡ fieldsOf l (getD xs i [])
     record-stands i h =
-        let place : placeFrom l note i ≡ length (take note b) + recordLength l * i = omega (arith, note-length lawful b note xs cases fit) in
+        let place : placeFrom l note i ≡ length (take note b) + recordLength l * i =
+        omega (arith, note-length lawful b note xs cases fit)
+        in
         let after = after-records l b note xs in
         ap₂ (λ (m : List ℕ) (at : ℕ). wordsAt m at (recordFields l)) (in-parts l b note xs) place
         ∙ wordsAt-skip (take note b) (recordsBytes l xs ++ after) (recordLength l * i) (recordFields l)

@@ -1,5 +1,5 @@
--- Demand 2: an accepted book, built again from its note and its cases, has the same used length and the same bytes, and nothing is refused on
--- the way. Assumes nothing.
+-- Demand 2: an accepted book, built again from its note and its cases, has the same used length and the same bytes, and nothing is
+-- refused on the way. Assumes nothing.
 use mathlib.Core.Bool.{true, _&&_}
 use mathlib.Core.List.{List, [], _∷_, _++_, append-nil}
 use mathlib.Core.Path.{_≡_, refl, sym, ap, ap₂, _∙_}
@@ -147,7 +147,8 @@ module _ {l : Layout} (lawful : Lawful l) (b : List ℕ) (used : ℕ) (bytes : b
       ∙ ap₂ (λ (u : ℕ) (m : List ℕ). record { number = 0; used = u; bytes = m }) used-is
       (ap₂ _++_ front (ap (λ (k : ℕ). drop k c) end))
 
-module _ {l : Layout} (lawful : Lawful l) (b : List ℕ) (used k : ℕ) (bytes : below 256 b ≡ true) (none : acceptIn l b used k .number ≡ 0) where
+module _ {l : Layout} (lawful : Lawful l) (b : List ℕ) (used k : ℕ) (bytes : below 256 b ≡ true)
+    (none : acceptIn l b used k .number ≡ 0) where
   -- For every buffer of bytes and used length that accept accepts: built in a buffer that is long enough and has the note at its front,
   -- nothing is refused, the used length is the same, and so is every byte of the book; what stood behind stays.
   pub rebuiltIn :

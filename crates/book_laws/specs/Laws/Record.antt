@@ -112,7 +112,9 @@ records-read {l} lawful (x ∷ xs) q (suc i) e h =
 
 -- The fields of a record, and its case, answer and rating.
 
-pub fields-are : (l : Layout) (b : List ℕ) (at : ℕ) → wordsAt b at (recordFields l) ≡ caseAt l b at ++ (answerAt l b at ∷ ratingAt l b at ∷ [])
+pub fields-are :
+    (l : Layout) (b : List ℕ) (at : ℕ) →
+    wordsAt b at (recordFields l) ≡ caseAt l b at ++ (answerAt l b at ∷ ratingAt l b at ∷ [])
 unfolding wordsAt
 fields-are l b at =
     let last : at + 4 * l .inputs + 4 ≡ at + 4 * (l .inputs + 1) = omega arith in

@@ -2,7 +2,7 @@
 -- Assumes nothing.
 use mathlib.Core.Path.{refl}
 use borrow.Author.Needs.{needs}
-use Rattle.splice.specs.Laws.{splice-one}
+use Rattle.splice.specs.Laws.Splice.{splice-one}
 use Rattle.decimals.proofs.put_byte.Statement.{statement}
 use Rattle.decimals.proofs.put_byte.Tie as tie
 

@@ -7,7 +7,8 @@ use Prim.Native.Nat.{ℕ, _/_, _%_, _≤_}
 use native.Mathlib.Omega.{arith}
 use borrow.Author.Needs.{needs}
 use lib.ListN.{length}
-use Rattle.splice.specs.Put.{Put, put-as}
+use Rattle.splice.specs.Put.{Put}
+use Rattle.splice.specs.Laws.Put.{put-as}
 use Rattle.decimals.specs.Decimal.{decimal, PutPadded}
 use Rattle.decimals.specs.Laws.Decimal.{count-below}
 use Rattle.decimals.specs.Laws.Parts.{decimal-then}

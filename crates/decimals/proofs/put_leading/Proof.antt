@@ -7,7 +7,7 @@ use native.Mathlib.Omega.{arith}
 use borrow.Author.Needs.{needs}
 use lib.ListN.{length, set}
 use Rattle.splice.specs.Splice.{splice}
-use Rattle.splice.specs.Laws.{splice-one}
+use Rattle.splice.specs.Laws.Splice.{splice-one}
 use Rattle.decimals.proofs.put_leading.Statement.{statement}
 use Rattle.decimals.proofs.put_leading.Tie as tie
 

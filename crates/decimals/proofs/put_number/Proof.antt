@@ -5,7 +5,7 @@ use mathlib.Core.Path.{_≡_, sym, ap}
 use Prim.Native.Nat.{ℕ}
 use native.Mathlib.Omega.{arith}
 use borrow.Author.Needs.{needs}
-use Rattle.splice.specs.Put.{put-as, put-then}
+use Rattle.splice.specs.Laws.Put.{put-as, put-then}
 use Rattle.decimals.specs.Decimal.{decimal, spaced}
 use Rattle.decimals.specs.Laws.Decimal.{count-64}
 use Rattle.decimals.proofs.put_number.Statement.{statement}

@@ -6,7 +6,7 @@ use mathlib.Core.Path.{refl, ap}
 use Prim.Native.Nat.{ℕ, _/_}
 use native.Mathlib.Omega.{arith}
 use borrow.Author.Needs.{needs}
-use Rattle.splice.specs.Put.{put-as}
+use Rattle.splice.specs.Laws.Put.{put-as}
 use Rattle.decimals.specs.Laws.Leading.{ready-first, ready-next, ready-last}
 use Rattle.decimals.proofs.put_to_four.Statement.{statement}
 use Rattle.decimals.proofs.put_to_four.Tie as tie

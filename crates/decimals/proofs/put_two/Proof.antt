@@ -5,7 +5,7 @@ use mathlib.Core.Path.{_≡_, ap₂}
 use Prim.Native.Nat.{ℕ, _+_, _/_, _%_, _<_}
 use native.Mathlib.Omega.{arith}
 use borrow.Author.Needs.{needs}
-use Rattle.splice.specs.Put.{put-as, put-then}
+use Rattle.splice.specs.Laws.Put.{put-as, put-then}
 use Rattle.decimals.specs.Decimal.{padded}
 use Rattle.decimals.proofs.put_two.Statement.{statement}
 use Rattle.decimals.proofs.put_two.Tie as tie

@@ -6,8 +6,9 @@ use Prim.Native.Nat.{ℕ, zero, suc, _+_, _/_, _%_, _≤_, min}
 use native.Mathlib.Omega.{arith}
 use lib.ListN.{length}
 use Rattle.splice.specs.Splice.{splice}
-use Rattle.splice.specs.Laws.{splice-again}
-use Rattle.splice.specs.Put.{Put, put-as, put-then}
+use Rattle.splice.specs.Laws.Splice.{splice-again}
+use Rattle.splice.specs.Put.{Put}
+use Rattle.splice.specs.Laws.Put.{put-as, put-then}
 use Rattle.decimals.specs.Decimal.{decimal}
 use Rattle.decimals.specs.Laws.Decimal.{decimal-small, decimal-large}
 

@@ -6,7 +6,8 @@ use Prim.Native.Nat.{ℕ, zero, suc, _+_, _/_, _%_, _^_, _≤_}
 use native.Mathlib.Nat.{add-assoc}
 use native.Mathlib.Numerals.{add-one}
 use lib.ListN.{length, length-append}
-use Rattle.splice.specs.Put.{Put, put-as, put-then}
+use Rattle.splice.specs.Put.{Put}
+use Rattle.splice.specs.Laws.Put.{put-as, put-then}
 use Rattle.decimals.specs.Decimal.{decimal, padded, PutPadded}
 use Rattle.decimals.specs.Laws.Decimal.{padded-split, decimal-split}
 

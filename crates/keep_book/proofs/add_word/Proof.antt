@@ -8,8 +8,9 @@ use native.Mathlib.Omega.{arith}
 use borrow.Author.Needs.{needs}
 use lib.ListN.{length, take}
 use lib.Seq.{take-all, take-length}
-use Rattle.splice.specs.Laws.{splice-length, splice-nothing}
-use Rattle.splice.specs.Put.{Put, put-as, put-then}
+use Rattle.splice.specs.Laws.Splice.{splice-length, splice-nothing}
+use Rattle.splice.specs.Put.{Put}
+use Rattle.splice.specs.Laws.Put.{put-as, put-then}
 use Rattle.text.specs.Gather.{piece, kept}
 use Rattle.keep_book.specs.Keeping.{nextWord}
 use Rattle.keep_book.proofs.add_word.Statement.{statement}

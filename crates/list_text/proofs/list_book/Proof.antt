@@ -11,7 +11,7 @@ use Rattle.book_laws.specs.Book.{acceptOf}
 use Rattle.book_laws.specs.Laws.Accept.{Counted, count-within}
 use Rattle.book_laws.specs.Layout.{rbk1}
 use Rattle.splice.specs.Splice.{splice}
-use Rattle.splice.specs.Laws.{splice-length}
+use Rattle.splice.specs.Laws.Splice.{splice-length}
 use Rattle.list_text.specs.Listing.{listingFor, listingOf}
 use borrow.Author.Needs.{needs}
 use Rattle.list_text.proofs.list_book.Statement.{statement}

@@ -1,7 +1,7 @@
 -- `list_text::put_line` meets its contract: the words, the digits, at most 20, and the line feed are joined. Assumes nothing.
 use mathlib.Core.List.{[], _∷_}
 use native.Mathlib.Omega.{arith}
-use Rattle.splice.specs.Put.{put-then}
+use Rattle.splice.specs.Laws.Put.{put-then}
 use Rattle.decimals.specs.Decimal.{decimal}
 use Rattle.decimals.specs.Laws.Decimal.{count-64}
 use borrow.Author.Needs.{needs}
@@ -21,8 +21,10 @@ returns c =
     let words = digits .before .before .before .before in
     let start = words .before .before .before .before in
     let n = start .args .number in
-    let two = put-then _ _ _ (decimal n) (omega (arith, start .pre)) (words .put-bytes .ensures) (digits .put-decimal .ensures) in
-    (put-then _ _ _ (10 ∷ []) (omega (arith, start .pre)) two (ended .put-byte .ensures), omega (arith, count-64 n (start .fits .number .fits)))
+    let two = put-then _ _ _ (decimal n) (omega (arith, start .pre)) (words .put-bytes .ensures) (digits .put-decimal .ensures) in (
+      put-then _ _ _ (10 ∷ []) (omega (arith, start .pre)) two (ended .put-byte .ensures),
+      omega (arith, count-64 n (start .fits .number .fits)),
+    )
 
 pub put-line-spec : {M : Type 1} → statement M
 put-line-spec =

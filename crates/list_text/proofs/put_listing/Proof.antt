@@ -10,7 +10,8 @@ use Rattle.book.specs.declared.accept.Acceptance.{Acceptance}
 use Rattle.book.specs.Answers.{acceptanceOf}
 use Rattle.book_laws.specs.Layout.{rbk1}
 use Rattle.splice.specs.Splice.{splice}
-use Rattle.splice.specs.Put.{Put, put-as, put-then}
+use Rattle.splice.specs.Put.{Put}
+use Rattle.splice.specs.Laws.Put.{put-as, put-then}
 use Rattle.list_text.specs.Listing.{recordLines, bookLine, refusedLine, disagreesLine, listingFor}
 use borrow.Author.Needs.{needs}
 use Rattle.list_text.proofs.put_listing.Statement.{statement}

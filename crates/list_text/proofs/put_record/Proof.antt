@@ -4,7 +4,7 @@ use mathlib.Core.Path.{_≡_, ap₂}
 use Prim.Native.Nat.{ℕ, _+_}
 use Rattle.book_laws.specs.Layout.{rbk1}
 use Rattle.book_laws.specs.Record.{placeFrom, answerAt, ratingAt}
-use Rattle.splice.specs.Put.{put-as}
+use Rattle.splice.specs.Laws.Put.{put-as}
 use Rattle.decimals.specs.Decimal.{written}
 use Rattle.list_text.specs.Listing.{recordLine}
 use borrow.Author.Needs.{needs}
@@ -23,7 +23,8 @@ returns c =
     let put = c .before .before in
     let second = put .before in
     let first = second .before in
-    (put-as _ _ (line-is _ _ _ (first .answer-at .ensures) (second .rating-at .ensures)) (put .put-numbers .ensures .0), put .put-numbers .ensures .1)
+    let line = line-is _ _ _ (first .answer-at .ensures) (second .rating-at .ensures) in
+    (put-as _ _ line (put .put-numbers .ensures .0), put .put-numbers .ensures .1)
 
 pub put-record-spec : {M : Type 1} → statement M
 put-record-spec =

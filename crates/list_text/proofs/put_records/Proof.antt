@@ -1,5 +1,5 @@
--- `list_text::put_records` meets its contract. The invariant: the lines of the first i records stand from `at` on, in at most 63 bytes each.
--- The measure is how many are left. Assumes nothing.
+-- `list_text::put_records` meets its contract. The invariant: the lines of the first i records stand from `at` on, in at most 63 bytes
+-- each. The measure is how many are left. Assumes nothing.
 use mathlib.Core.List.{List, _++_}
 use mathlib.Core.Path.{_≡_, refl, sym, ap}
 use Prim.Native.Nat.{ℕ, _+_, _*_, _-_, _≤_}
@@ -7,7 +7,8 @@ use native.Mathlib.Numerals.{add-one}
 use native.Mathlib.Omega.{arith}
 use lib.ListN.{length}
 use Rattle.book_laws.specs.Layout.{rbk1}
-use Rattle.splice.specs.Put.{Put, put-as, put-nothing, put-then}
+use Rattle.splice.specs.Put.{Put}
+use Rattle.splice.specs.Laws.Put.{put-as, put-nothing, put-then}
 use Rattle.list_text.specs.Listing.{recordLine, recordLines}
 use Rattle.list_text.proofs.put_records.Statement.{statement}
 use Rattle.list_text.proofs.put_records.Tie as tie

@@ -4,7 +4,7 @@ use mathlib.Core.List.{List}
 use mathlib.Core.Path.{_≡_, ap, _∙_}
 use Prim.Native.Nat.{ℕ}
 use borrow.Author.Needs.{needs}
-use Rattle.splice.specs.Put.{put-as}
+use Rattle.splice.specs.Laws.Put.{put-as}
 use Rattle.rate_text.specs.Answers.{printedFor, printed}
 use Rattle.text.specs.declared.line.Read.{Read}
 use Rattle.text.specs.Answer.{answer, saidOf}

@@ -6,7 +6,7 @@ use Prim.Native.Nat.{ℕ}
 use native.Mathlib.Omega.{arith}
 use borrow.Author.Needs.{needs}
 use borrow.Author.Tests.{eq-eqb, ne-eqb}
-use Rattle.splice.specs.Put.{put-as, put-nothing}
+use Rattle.splice.specs.Laws.Put.{put-as, put-nothing}
 use Rattle.rate_text.specs.Answers.{textOf, unreadableText, printedFor}
 use Rattle.rating.specs.Rate.{Answer, rateOf}
 use Rattle.text.specs.declared.line.Read.{Read}

@@ -2,7 +2,7 @@
 -- Assumes nothing.
 use native.Mathlib.Omega.{arith}
 use borrow.Author.Needs.{needs}
-use Rattle.splice.specs.Put.{put-then}
+use Rattle.splice.specs.Laws.Put.{put-then}
 use Rattle.rate_text.specs.Answers.{aboutLine}
 use Rattle.decimals.specs.Decimal.{decimal}
 use Rattle.decimals.specs.Laws.Decimal.{count-64}

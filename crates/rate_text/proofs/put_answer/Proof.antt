@@ -5,7 +5,7 @@ use mathlib.Core.Path.{_≡_, sym, ap, _∙_}
 use Prim.Native.Nat.{ℕ, _+_, _^_, _≤_, _<_}
 use native.Mathlib.Omega.{arith}
 use borrow.Author.Needs.{needs}
-use Rattle.splice.specs.Put.{put-as, put-then}
+use Rattle.splice.specs.Laws.Put.{put-as, put-then}
 use Rattle.rate_text.specs.Answers.{textOf}
 use Rattle.decimals.specs.Decimal.{decimal, spaced, written}
 use Rattle.decimals.specs.Laws.Decimal.{count-64, spaced-append}

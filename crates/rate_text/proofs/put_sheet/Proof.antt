@@ -8,7 +8,8 @@ use native.Mathlib.Numerals.{add-one}
 use native.Mathlib.Omega.{arith}
 use lib.ListN.{length, getD, take}
 use lib.Seq.{take-suc, take-all}
-use Rattle.splice.specs.Put.{Put, put-as, put-nothing, put-then}
+use Rattle.splice.specs.Put.{Put}
+use Rattle.splice.specs.Laws.Put.{put-as, put-nothing, put-then}
 use Rattle.decimals.specs.Decimal.{spaced}
 use Rattle.decimals.specs.Laws.Decimal.{spaced-append}
 use Rattle.rate_text.proofs.put_sheet.Statement.{statement}

@@ -1,7 +1,6 @@
 -- `sheafdawn::sheafdawn_start` meets its contract. Assumes nothing.
 use denote.Ref.{now}
 use borrow.Author.Tests.{ne-eqb}
-use Rattle.book_laws.specs.Start.{Written}
 use Rattle.book.specs.declared.start.Written as Code
 use Rattle.sheafdawn.specs.Calls.{writtenCall, startCall}
 use Rattle.sheafdawn.proofs.Outs.{one-place, written}

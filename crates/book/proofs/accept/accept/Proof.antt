@@ -101,7 +101,8 @@ returns-2 c =
     let tested = c .before .before in
     let at-loop = tested .before .before in
     let described = at-loop .before in
-    named _ _ (described .before .before .describe-book .ensures) (at-loop .loop .i) (described .if1 .left) (tested .before .loop-test .taken)
+    named _ _ (described .before .before .describe-book .ensures) (at-loop .loop .i) (described .if1 .left)
+    (tested .before .loop-test .taken)
     (sym (tested .record-agrees .ensures) ∙ not-true _ (c .before .if2 .taken))
     (c .unaccepted2 .ensures)
 

@@ -32,7 +32,8 @@ own-none : (count left : ℕ) → ownOf count left ≡ 0 → (count < rbk1 .most
 own-none count left e = by-tests (leb (rbk1 .most) count) (ltb left (recordLength rbk1)) refl refl e
   where
     by-tests :
-        (full short : Bool) → leb (rbk1 .most) count ≡ full → ltb left (recordLength rbk1) ≡ short → _≡_ {A = ℕ} (cond full 25 (cond short 24 0)) 0 →
+        (full short : Bool) → leb (rbk1 .most) count ≡ full → ltb left (recordLength rbk1) ≡ short →
+        _≡_ {A = ℕ} (cond full 25 (cond short 24 0)) 0 →
         (count < rbk1 .most) × (recordLength rbk1 ≤ left)
     by-tests true short f s e = absurd (suc-ne-zero 24 e)
     by-tests false true f s e = absurd (suc-ne-zero 23 e)
@@ -42,7 +43,9 @@ own-none count left e = by-tests (leb (rbk1 .most) count) (ltb left (recordLengt
 same-room : (n used : ℕ) → used ≤ n → ltb (n - used) (recordLength rbk1) ≡ ltb n (used + recordLength rbk1)
 same-room n used h = by-test (ltb n (used + recordLength rbk1)) refl
   where
-    by-test : (short : Bool) → ltb n (used + recordLength rbk1) ≡ short → ltb (n - used) (recordLength rbk1) ≡ ltb n (used + recordLength rbk1)
+    by-test :
+        (short : Bool) → ltb n (used + recordLength rbk1) ≡ short →
+        ltb (n - used) (recordLength rbk1) ≡ ltb n (used + recordLength rbk1)
     by-test true t = lt-ltb (n - used) (recordLength rbk1) (omega (arith, ltb-true n (used + recordLength rbk1) t)) ∙ sym t
     by-test false t = le-ltb (n - used) (recordLength rbk1) (omega (arith, ltb-false n (used + recordLength rbk1) t)) ∙ sym t
 
@@ -133,7 +136,8 @@ returns-3 c =
     let tested = known .before .before .before .before in
     let told = tested .before .before .describe-book .ensures in
     let none = tested .if1 .left in
-    sym (appended _ _ _ told none (room known .0) (omega (arith, of-book _ _ told none .used-most, room known .1)) (put .put-record .ensures))
+    sym (appended _ _ _ told none (room known .0) (omega (arith, of-book _ _ told none .used-most, room known .1))
+    (put .put-record .ensures))
 
 pub append-spec : {M : Type 1} → statement M
 append-spec =

@@ -5,7 +5,7 @@ use Prim.Native.Nat.{ℕ, _+_, _≤_}
 use native.Mathlib.Omega.{arith}
 use lib.ListN.{length}
 use Rattle.splice.specs.Splice.{splice}
-use Rattle.splice.specs.Laws.{splice-after}
+use Rattle.splice.specs.Laws.Splice.{splice-after}
 use Rattle.rating.specs.Rate.{Answer, answerOf, rateOf}
 use Rattle.rating.specs.declared.rate.Rated.{Rated}
 use Rattle.book_laws.specs.Bytes.{wordsBytes}
@@ -17,7 +17,8 @@ use Rattle.book.proofs.append.put_record.Statement.{statement}
 use Rattle.book.proofs.append.put_record.Tie as tie
 
 fields-are :
-    (x : List ℕ) {r : Rated} {f : List ℕ} → answerOf r ≡ rateOf x → f ≡ x ++ (r .answer ∷ r .rating ∷ []) → wordsBytes f ≡ recordBytes rbk1 x
+    (x : List ℕ) {r : Rated} {f : List ℕ} → answerOf r ≡ rateOf x → f ≡ x ++ (r .answer ∷ r .rating ∷ []) →
+    wordsBytes f ≡ recordBytes rbk1 x
 unfolding recordBytes fieldsOf
 fields-are x {r} {f} rated made =
     let number = ap (λ (a : Answer). a .number) rated in

@@ -5,7 +5,7 @@ use Prim.Native.Nat.{ℕ, suc, _+_, _≤_}
 use native.Mathlib.Omega.{arith}
 use lib.ListN.{length, set, length-set}
 use Rattle.splice.specs.Splice.{splice}
-use Rattle.splice.specs.Laws.{splice-sets}
+use Rattle.splice.specs.Laws.Splice.{splice-sets}
 use borrow.Author.Needs.{needs}
 use Rattle.book_bytes.proofs.field.put_four.Statement.{statement}
 use Rattle.book_bytes.proofs.field.put_four.Tie as tie

@@ -21,7 +21,8 @@ all-four true true true true = refl
 
 compared :
     (b : List ℕ) (at : ℕ) →
-    eqb (getD b at 0) 82 && eqb (getD b (at + 1) 0) 66 && eqb (getD b (at + 2) 0) 75 && eqb (getD b (at + 3) 0) 49 ≡ stands (rbk1 .mark) b at
+    eqb (getD b at 0) 82 && eqb (getD b (at + 1) 0) 66 && eqb (getD b (at + 2) 0) 75 && eqb (getD b (at + 3) 0) 49
+    ≡ stands (rbk1 .mark) b at
 unfolding stands
 compared b at =
     let two : at + 1 + 1 ≡ at + 2 = omega arith in

@@ -1,37 +1,42 @@
--- `book_bytes::record::fields_of` meets its contract. The invariant: the first i fields are the first i numbers of the case. The measure is how
--- many are left. Assumes nothing.
+-- `book_bytes::record::fields_of` meets its contract. The invariant: the first i fields are the first i numbers of the case. The measure is
+-- how many are left. Assumes nothing.
 use mathlib.Core.List.{List, [], _∷_, _++_, append-assoc}
 use mathlib.Core.Path.{_≡_, refl, sym, ap, _∙_}
-use Prim.Native.Nat.{ℕ, _-_, _≤_}
+use Prim.Native.Nat.{ℕ, _+_, _-_, _≤_}
 use native.Mathlib.Omega.{arith}
 use lib.ListN.{length, take, set, length-set}
 use lib.Seq.{take-all, take-suc-set}
-use Rattle.splice.specs.Laws.{copy-one}
+use Rattle.splice.specs.Laws.Splice.{copy-one}
+use Rattle.fields.specs.Fields.{width}
+use Rattle.book_laws.specs.Layout.{rbk1, recordFields}
 use Rattle.book_bytes.proofs.record.fields_of.Statement.{statement}
 use Rattle.book_bytes.proofs.record.fields_of.Tie as tie
 
 -- the answer and the rating are stored after the case
 last-two :
-    (f x : List ℕ) (answer rating : ℕ) → length f ≡ 28 → length x ≡ 26 → take 26 f ≡ take 26 x →
-    (set (set f 26 answer) 27 rating ≡ x ++ (answer ∷ rating ∷ [])) × (length (set (set f 26 answer) 27 rating) ≡ 28)
+    (f x : List ℕ) (answer rating : ℕ) → length f ≡ recordFields rbk1 → length x ≡ width → take width f ≡ take width x →
+    let stored = set (set f width answer) (width + 1) rating in
+    (stored ≡ x ++ (answer ∷ rating ∷ [])) × (length stored ≡ recordFields rbk1)
 last-two f x answer rating f-size x-size so-far =
-    let size : length (set (set f 26 answer) 27 rating) ≡ 28 =
-    length-set (set f 26 answer) 27 rating ∙ length-set f 26 answer ∙ f-size
-    in
-    let inner-size = length-set f 26 answer ∙ f-size in
-    let case-first = take-suc-set f 26 answer (omega arith) ∙ ap (λ (t : List ℕ). t ++ (answer ∷ [])) (so-far ∙ take-all 26 x (omega arith)) in (
-      sym (take-all 28 (set (set f 26 answer) 27 rating) (omega arith))
-          ∙ take-suc-set (set f 26 answer) 27 rating (omega (arith, inner-size))
-          ∙ ap (λ (t : List ℕ). t ++ (rating ∷ [])) case-first
+    let one = set f width answer in
+    let both = set one (width + 1) rating in
+    let one-size = length-set f width answer ∙ f-size in
+    let size = length-set one (width + 1) rating ∙ one-size in
+    let first : take (width + 1) one ≡ x ++ (answer ∷ []) =
+    take-suc-set f width answer (omega arith) ∙ ap (λ (t : List ℕ). t ++ (answer ∷ [])) (so-far ∙ take-all width x (omega arith))
+    in (
+      sym (take-all (recordFields rbk1) both (omega (arith, size)))
+          ∙ take-suc-set one (width + 1) rating (omega (arith, one-size))
+          ∙ ap (λ (t : List ℕ). t ++ (rating ∷ [])) first
           ∙ append-assoc x (answer ∷ []) (rating ∷ []),
       size,
     )
 
 abbrev Inv-loop : tie.InvT-loop
-Inv-loop answer rating x fields₀ i₀ fields i = (i ≤ 26) × (length fields ≡ 28) × (take i fields ≡ take i x)
+Inv-loop answer rating x fields₀ i₀ fields i = (i ≤ width) × (length fields ≡ recordFields rbk1) × (take i fields ≡ take i x)
 
 abbrev μ-loop : tie.MeasureT-loop
-μ-loop answer rating x fields₀ i₀ fields i = 26 - i
+μ-loop answer rating x fields₀ i₀ fields i = width - i
 
 loop-holds : tie.Need-loop-holds Inv-loop μ-loop
 loop-holds c = (omega arith, refl, refl)
@@ -47,7 +52,7 @@ loop-again c =
 returns : tie.Need-returns Inv-loop μ-loop
 returns c =
     let at-loop = c .before .loop in
-    let all : at-loop .i ≡ 26 = omega arith in
+    let all : at-loop .i ≡ width = omega arith in
     last-two (at-loop .fields) (c .before .before .args .t1) _ _ (omega arith) (omega arith)
     (ap (λ (k : ℕ). take k (at-loop .fields)) (sym all) ∙ at-loop .inv .2 ∙ ap (λ (k : ℕ). take k (c .before .before .args .t1)) all)
 

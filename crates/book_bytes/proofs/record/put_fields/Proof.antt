@@ -1,5 +1,5 @@
--- `book_bytes::record::put_fields` meets its contract. The invariant: the first i fields stand from `at` on. The measure is how many are left.
--- Assumes nothing.
+-- `book_bytes::record::put_fields` meets its contract. The invariant: the first i fields stand from `at` on. The measure is how many are
+-- left. Assumes nothing.
 use mathlib.Core.List.{List}
 use mathlib.Core.Path.{_≡_, refl, sym, ap, _∙_}
 use Prim.Native.Nat.{ℕ, _+_, _*_, _-_, _≤_, _<_}
@@ -7,7 +7,8 @@ use native.Mathlib.Omega.{arith}
 use lib.ListN.{length, getD, take}
 use lib.Seq.{length-take-le, take-all}
 use Rattle.splice.specs.Splice.{splice}
-use Rattle.splice.specs.Laws.{splice-nothing, splice-after}
+use Rattle.splice.specs.Laws.Splice.{splice-nothing, splice-after}
+use Rattle.book_laws.specs.Layout.{rbk1, recordFields}
 use Rattle.book_laws.specs.Bytes.{wordBytes, wordsBytes}
 use Rattle.book_laws.specs.Laws.Bytes.{wordsBytes-length, wordsBytes-next}
 use Rattle.book_bytes.proofs.record.put_fields.Statement.{statement}
@@ -29,10 +30,11 @@ one-more l at ws i {m} {n} h more so-far put =
     ∙ ap (splice l at) (wordsBytes-next ws i more)
 
 abbrev Inv-loop : tie.InvT-loop
-Inv-loop buffer₀ at fields i₀ buffer i = (i ≤ 28) × (length buffer ≡ length buffer₀) × (buffer ≡ splice buffer₀ at (wordsBytes (take i fields)))
+Inv-loop buffer₀ at fields i₀ buffer i =
+    (i ≤ recordFields rbk1) × (length buffer ≡ length buffer₀) × (buffer ≡ splice buffer₀ at (wordsBytes (take i fields)))
 
 abbrev μ-loop : tie.MeasureT-loop
-μ-loop buffer₀ at fields i₀ buffer i = 28 - i
+μ-loop buffer₀ at fields i₀ buffer i = recordFields rbk1 - i
 
 finished :
     (l : List ℕ) (at : ℕ) (ws : List ℕ) (i : ℕ) {m : List ℕ} → length ws ≤ i → m ≡ splice l at (wordsBytes (take i ws)) →

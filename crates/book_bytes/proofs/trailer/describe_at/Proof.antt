@@ -23,7 +23,9 @@ module _ (b : List ℕ) (at : ℕ) {count distance size : ℕ} (marked : stands 
   unfolding describeAt
   wrong test = rw (← count-is, ← distance-is, ← size-is) (simp (marked, test))
 
-  sound : wrongTrailer rbk1 at count distance size ≡ false → describeAt rbk1 b at ≡ record { number = 0; count = count; first = at - distance }
+  sound :
+      wrongTrailer rbk1 at count distance size ≡ false →
+      describeAt rbk1 b at ≡ record { number = 0; count = count; first = at - distance }
   unfolding describeAt
   sound test = rw (← count-is, ← distance-is, ← size-is) (simp (marked, test))
 

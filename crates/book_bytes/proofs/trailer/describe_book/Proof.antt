@@ -1,4 +1,5 @@
--- `book_bytes::trailer::describe_book` meets its contract: 20, then 21 for fewer bytes than a trailer has, then what the trailer says. Assumes nothing.
+-- `book_bytes::trailer::describe_book` meets its contract: 20, then 21 for fewer bytes than a trailer has, then what the trailer says.
+-- Assumes nothing.
 use mathlib.Core.Path.{sym, _∙_}
 use borrow.Author.Tests.{lt-ltb, le-ltb}
 use Rattle.book_laws.specs.Trailer.{describeIn}

@@ -5,7 +5,8 @@ use Prim.Native.Nat.{ℕ, _+_, _*_, _≤_}
 use native.Mathlib.Omega.{arith}
 use lib.ListN.{length}
 use Rattle.splice.specs.Splice.{splice}
-use Rattle.splice.specs.Put.{Put, put-then}
+use Rattle.splice.specs.Put.{Put}
+use Rattle.splice.specs.Laws.Put.{put-then}
 use Rattle.book_laws.specs.Bytes.{wordBytes}
 use Rattle.book_laws.specs.Laws.Bytes.{numberBytes-length}
 use Rattle.book_laws.specs.Layout.{rbk1, recordLength}

@@ -6,7 +6,7 @@ use native.Mathlib.Omega.{arith}
 use lib.ListN.{length, take, length-set}
 use lib.Seq.{take-all}
 use denote.Ref.{now}
-use Rattle.splice.specs.Laws.{copy-one}
+use Rattle.splice.specs.Laws.Splice.{copy-one}
 use Rattle.sheafdawn.proofs.copy.copy_words.Statement.{statement}
 use Rattle.sheafdawn.proofs.copy.copy_words.Tie as tie
 

@@ -1,5 +1,5 @@
--- `sheafdawn::copy::put_sheet` meets its contract. The invariant: the first i numbers stand after the first place. The measure is how many are
--- left. Assumes nothing.
+-- `sheafdawn::copy::put_sheet` meets its contract. The invariant: the first i numbers stand after the first place. The measure is how
+-- many are left. Assumes nothing.
 use mathlib.Core.List.{List, [], _∷_}
 use mathlib.Core.Path.{_≡_, sym, ap, _∙_}
 use Prim.Native.Nat.{ℕ, _+_, _-_, _≤_, _<_}
@@ -8,7 +8,7 @@ use native.Mathlib.Omega.{arith}
 use lib.ListN.{length, getD, take, set, length-set}
 use lib.Seq.{length-take-le, take-all, take-suc}
 use Rattle.splice.specs.Splice.{splice}
-use Rattle.splice.specs.Laws.{splice-nothing, splice-one, splice-after}
+use Rattle.splice.specs.Laws.Splice.{splice-nothing, splice-one, splice-after}
 use Rattle.sheafdawn.proofs.copy.put_sheet.Statement.{statement}
 use Rattle.sheafdawn.proofs.copy.put_sheet.Tie as tie
 

@@ -8,7 +8,7 @@ use native.Mathlib.Omega.{arith}
 use borrow.Author.Needs.{needs}
 use Rattle.sheet_text.specs.declared.fixed.Value.{Value}
 use Rattle.sheet_text.specs.Fixed.{fixed, signed}
-use Rattle.splice.specs.Put.{put-as, put-then}
+use Rattle.splice.specs.Laws.Put.{put-as, put-then}
 use Rattle.sheet_text.proofs.fixed.put_signed.Statement.{statement}
 use Rattle.sheet_text.proofs.fixed.put_signed.Tie as tie
 

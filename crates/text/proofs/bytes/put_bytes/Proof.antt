@@ -8,7 +8,7 @@ use native.Mathlib.Omega.{arith}
 use borrow.Author.Needs.{needs}
 use lib.ListN.{length, take}
 use lib.Seq.{take-all, take-length}
-use Rattle.splice.specs.Put.{put-as}
+use Rattle.splice.specs.Laws.Put.{put-as}
 use Rattle.text.specs.Gather.{piece, kept}
 use Rattle.text.proofs.bytes.put_bytes.Statement.{statement}
 use Rattle.text.proofs.bytes.put_bytes.Tie as tie

@@ -6,8 +6,19 @@ use lib.Dec.{lit<, lit≤}
 use lib.ListN.{length, getD, take, drop, set}
 use lib.Seq.{sets}
 use Rattle.splice.specs.Splice.{splice}
-use Rattle.splice.specs.Laws.{splice-length, splice-before, splice-past, splice-one, splice-after, splice-again, splice-over, splice-sets, copy-one}
-use Rattle.splice.specs.Put.{Put, put-nothing, put-as, put-then}
+use Rattle.splice.specs.Put.{Put}
+use Rattle.splice.specs.Laws.Splice.{
+  splice-length,
+  splice-before,
+  splice-past,
+  splice-one,
+  splice-after,
+  splice-again,
+  splice-over,
+  splice-sets,
+  copy-one,
+}
+use Rattle.splice.specs.Laws.Put.{put-nothing, put-as, put-then}
 
 abbrev six : List ℕ
 six = 1 ∷ 2 ∷ 3 ∷ 4 ∷ 5 ∷ 6 ∷ []

@@ -12,6 +12,7 @@ use decimals::put_byte;
 use decimals::put_decimal;
 use decimals::put_number;
 use rating::rate::Rated;
+use rating::rate::SHEET;
 use rating::rate::rate;
 use text::bytes::put_bytes;
 use text::line::CASE;
@@ -23,14 +24,14 @@ use text::line::read_line;
 pub const ROOM: usize = 512;
 
 // Writes each number of a sheet with a blank before it.
-fn put_sheet(out: &mut [u8], at: usize, xs: [u64; 13]) -> usize
+fn put_sheet(out: &mut [u8], at: usize, xs: [u64; SHEET]) -> usize
     requires { ⌜ at + sheetRoom ≤ length (now out) ⌝ }
     ensures { λ r. ⌜ Put (now (out .entry)) at (spaced xs) (now (out .exit)) r ⌝ }
     ensures { λ r. ⌜ r ≤ at + sheetRoom ⌝ }
 {
     let mut end = at;
     let mut i = 0;
-    while i < 13 {
+    while i < SHEET {
         end = put_number(out, end, xs[i]);
         i += 1;
     }

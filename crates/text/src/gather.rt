@@ -31,7 +31,7 @@ fn eight_in_line(chunk: &[u8], i: usize) -> bool
 // A place from which on the first line feed is the one from `from` on, and less than eight bytes
 // away, or the end is. Eight bytes are compared at once, where one after another would each be a
 // branch.
-fn near_feed(chunk: &[u8], from: usize) -> usize
+fn near_line_feed(chunk: &[u8], from: usize) -> usize
     ensures { λ r. ⌜ runEnd isInLine (now (chunk .entry)) from ≡ runEnd isInLine (now (chunk .entry)) r ⌝ }
 {
     let mut i = from;
@@ -51,7 +51,7 @@ fn near_feed(chunk: &[u8], from: usize) -> usize
 pub fn line_feed(chunk: &[u8], from: usize) -> usize
     ensures { λ r. ⌜ r ≡ runEnd isInLine (now (chunk .entry)) from ⌝ }
 {
-    let mut i = near_feed(chunk, from);
+    let mut i = near_line_feed(chunk, from);
     while i < chunk.len() {
         if chunk[i] == b'\n' {
             return i;

@@ -38,7 +38,7 @@ line-feed-spec =
     Inv-loop
     μ-loop
     (λ c κs. tt)
-    (λ c. c .near-feed .ensures)
+    (λ c. c .near-line-feed .ensures)
     (λ c. c .before .loop-test .taken)
     at-feed
     (λ c. omega arith)

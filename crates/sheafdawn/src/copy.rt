@@ -7,6 +7,7 @@ ghost use Rattle.splice.specs.Splice.{splice};
 use book_bytes::layout::Record;
 use fields::Case;
 use fields::WIDTH;
+use rating::rate::SHEET;
 
 // Copies all words of a slice into one that is as long.
 fn copy_words(from: &[u32], to: &mut [u32])
@@ -31,12 +32,12 @@ pub(crate) fn case_of(case: &[u32]) -> Case
 }
 
 // Writes a sheet after the first number of a slice of 14.
-pub(crate) fn put_sheet(out: &mut [u64], sheet: [u64; 13])
+pub(crate) fn put_sheet(out: &mut [u64], sheet: [u64; SHEET])
     requires { ⌜ length (now out) ≡ 14 ⌝ }
     ensures { λ _. ⌜ (now (out .exit) ≡ splice (now (out .entry)) 1 sheet) × (length sheet ≡ 13) ⌝ }
 {
     let mut i = 0;
-    while i < 13 {
+    while i < SHEET {
         out[i + 1] = sheet[i];
         i += 1;
     }

@@ -96,14 +96,14 @@ fn load(x: Case, p: Early) -> Rated
     requires { ⌜ Fit (own x) x × Holds x p ⌝ }
     ensures { λ r. ⌜ answerOf r ≡ loaded x ⌝ }
 {
-    let l = losses_of(x, p.b, p.rs);
     let wd = dielectric_loss_of(x, p.b);
+    let h = conductor(x, p.rc, p.zs, p.zp);
+    let l = losses_of(x, p.b, p.rs);
     let dd = dielectric_rise_of(x, l.n, wd);
     let permitted = rise(x);
     if 90000000 * permitted < 10 * dd {
         return refuse(10);
     }
-    let h = conductor(x, p.rc, p.zs, p.zp);
     let e = unit_rise_of(x, l.n, h.r, l.s, l.w);
     let i = current_of(x, permitted, dd, e);
     if MOST_CURRENT < i {

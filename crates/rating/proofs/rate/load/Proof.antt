@@ -18,20 +18,20 @@ use Rattle.rating.specs.Laws.Stage10.{numbers-in-range}
 use Rattle.rating.proofs.rate.load.Statement.{statement}
 use Rattle.rating.proofs.rate.load.Tie as tie
 
-dd-is :
-    (c : tie.After-dielectric-rise-of) →
-    c .dielectric-rise-of .result ≡ numbersOf (c .before .before .before .args .x) .dd
+abbrev start : tie.After-losses-of → tie.Start
+start c = c .before .before .before
+
+dd-is : (c : tie.After-dielectric-rise-of) → c .dielectric-rise-of .result ≡ numbersOf (start (c .before) .args .x) .dd
 dd-is c =
-    let x = c .before .before .before .args .x in
-    let n = c .before .before .losses-of .ensures .n-is in
+    let x = start (c .before) .args .x in
     c .dielectric-rise-of .ensures
-    ∙ ap (λ n. dielectricRise n (Wd x) (Field.t1 x) (Field.t2 x) (Field.t3 x) (Field.t4 x)) n
+    ∙ ap (λ n. dielectricRise n (Wd x) (Field.t1 x) (Field.t2 x) (Field.t3 x) (Field.t4 x)) (c .before .losses-of .ensures .n-is)
     ∙ sym (alternates (Field.arrangement x) .dd-is x)
 
 -- the code's test of refusal 10 is the definition's
 hot :
     (c : tie.After-rise) →
-    let x = c .before .before .before .before .args .x in
+    let x = start (c .before .before) .args .x in
     dielectricRefused (numbersOf x .dd) (riseOf x) ≡ ltb (90000000 * c .rise .result) (10 * c .before .dielectric-rise-of .result)
 unfolding dielectricRefused
 hot c =
@@ -39,49 +39,51 @@ hot c =
     let rise = sym (c .rise .ensures) in
     λ i. ltb (90000000 * rise i) (10 * dd i)
 
-losses-of-requires : tie.Need-losses-of-requires
-losses-of-requires c κs = (c .pre .0, c .pre .1 .b-is, c .pre .1 .rs-is)
-
 dielectric-loss-of-requires : tie.Need-dielectric-loss-of-requires
-dielectric-loss-of-requires c κs = (c .before .pre .0 .sound, c .before .pre .1 .b-is)
+dielectric-loss-of-requires c κs = (c .pre .0 .sound, c .pre .1 .b-is)
+
+conductor-requires : tie.Need-conductor-requires
+conductor-requires c κs =
+    let pre = c .before .pre in
+    (pre .0, pre .1 .rc-is, pre .1 .zs-is, pre .1 .zp-is)
+
+losses-of-requires : tie.Need-losses-of-requires
+losses-of-requires c κs =
+    let pre = c .before .before .pre in
+    (pre .0, pre .1 .b-is, pre .1 .rs-is)
 
 dielectric-rise-of-requires : tie.Need-dielectric-rise-of-requires
 dielectric-rise-of-requires c κs =
-    let fit = c .before .before .pre .0 in
-    (fit .sound, omega (arith, c .before .losses-of .ensures .n-is, numbers-in-range fit .n), c .dielectric-loss-of .ensures)
+    let fit = start c .pre .0 in
+    (fit .sound, omega (arith, c .losses-of .ensures .n-is, numbers-in-range fit .n), c .before .before .dielectric-loss-of .ensures)
 
 rise-requires : tie.Need-rise-requires
-rise-requires c κs = c .before .before .before .pre .0 .sound
+rise-requires c κs = start (c .before) .pre .0 .sound
 
 mul-if1 : tie.Need-mul-if1
 unfolding riseOf
-mul-if1 c = omega (arith, c .rise .ensures, rise-range (c .before .before .before .before .pre .0 .sound))
+mul-if1 c = omega (arith, c .rise .ensures, rise-range (start (c .before .before) .pre .0 .sound))
 
 mul-if1-2 : tie.Need-mul-if1-2
-mul-if1-2 c = omega (arith, dd-is (c .before), numbers-in-range (c .before .before .before .before .pre .0) .dd)
+mul-if1-2 c = omega (arith, dd-is (c .before), numbers-in-range (start (c .before .before) .pre .0) .dd)
 
 returns : tie.Need-returns
 unfolding loaded
 returns c = simp (hot (c .before .before) ∙ lt-ltb _ _ (c .before .if1 .taken)) (c .refuse .ensures)
 
-conductor-requires : tie.Need-conductor-requires
-conductor-requires c κs =
-    let pre = c .before .before .before .before .before .pre in
-    (pre .0, pre .1 .rc-is, pre .1 .zs-is, pre .1 .zp-is)
-
 unit-rise-of-requires : tie.Need-unit-rise-of-requires
 unit-rise-of-requires c κs =
-    let losses = c .before .before .before .before .before in
-    let x = losses .before .args .x in
+    let losses = c .before .before .before in
+    let x = start losses .args .x in
     let l = losses .losses-of .ensures in
-    let r = c .conductor .ensures .r-is ∙ sym (alternates (Field.arrangement x) .R-is x) in
-    (losses .before .pre .0, (l .n-is, r, l .s-is, l .w-is))
+    let r = losses .before .conductor .ensures .r-is ∙ sym (alternates (Field.arrangement x) .R-is x) in
+    (start losses .pre .0, (l .n-is, r, l .s-is, l .w-is))
 
 current-of-requires : tie.Need-current-of-requires
 current-of-requires c κs =
-    let cool = c .before .before in
+    let cool = c .before in
     let rise = cool .before in (
-      (rise .before .before .before .before .pre .0, rise .rise .ensures, dd-is (rise .before), c .unit-rise-of .ensures),
+      (start (rise .before .before) .pre .0, rise .rise .ensures, dd-is (rise .before), c .unit-rise-of .ensures),
       cool .if1 .left,
     )
 
@@ -89,7 +91,7 @@ returns-2 : tie.Need-returns-2
 unfolding loaded currentRefused
 returns-2 c =
     let current = c .before .before in
-    let cool = current .before .before .before in
+    let cool = current .before .before in
     let over = ap (ltb 5000000) (sym (current .current-of .ensures)) ∙ lt-ltb _ _ (c .before .if2 .taken) in
     simp (hot (cool .before) ∙ le-ltb _ _ (cool .if1 .left), over) (c .refuse2 .ensures)
 
@@ -97,13 +99,12 @@ returns-3 : tie.Need-returns-3
 unfolding loaded currentRefused rated sheetOf
 returns-3 c =
     let current = c .before in
-    let conductor = current .before .before in
-    let cool = conductor .before in
+    let cool = current .before .before in
     let rise = cool .before in
-    let losses = rise .before .before .before in
-    let x = losses .before .args .x in
-    let p = losses .before .pre .1 in
-    let h = conductor .conductor .ensures in
+    let losses = rise .before .before in
+    let x = start losses .args .x in
+    let p = start losses .pre .1 in
+    let h = losses .before .conductor .ensures in
     let l = losses .losses-of .ensures in
     let r = h .r-is ∙ sym (alternates (Field.arrangement x) .R-is x) in
     let under = ap (ltb 5000000) (sym (current .current-of .ensures)) ∙ le-ltb _ _ (c .if2 .left) in
@@ -114,7 +115,7 @@ returns-3 c =
       rating = current .current-of .ensures j;
       sheet =
           p .rc-is j ∷ p .rs-is j ∷ l .ra-is j ∷ p .b-is j ∷ h .ys-is j ∷ h .yp-is j ∷ r j ∷ l .x-is j ∷ l .s-is j ∷ l .w-is j
-          ∷ rise .before .before .dielectric-loss-of .ensures j
+          ∷ losses .before .before .dielectric-loss-of .ensures j
           ∷ dd-is (rise .before) j
           ∷ current .before .unit-rise-of .ensures j
           ∷ [];
@@ -124,15 +125,15 @@ pub load-spec : {M : Type 1} → statement M
 load-spec =
     tie.close
     (tie.spec
-    losses-of-requires
     dielectric-loss-of-requires
+    conductor-requires
+    losses-of-requires
     dielectric-rise-of-requires
     rise-requires
     mul-if1
     mul-if1-2
     (λ c κs. search needs)
     returns
-    conductor-requires
     unit-rise-of-requires
     current-of-requires
     (λ c κs. search needs)

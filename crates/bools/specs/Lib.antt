@@ -1,2 +1,2 @@
 -- What the outcome of a test says of its parts. Assumes nothing.
-pub mod Tests
+pub mod Laws

@@ -10,7 +10,7 @@ use lib.Dec.{eqb, ltb, leb}
 use lib.ListN.{length, length-append}
 use lib.Seq.{append-snoc}
 use borrow.Author.Tests.{le-ltb, lt-leb, eqb-true, ltb-false, leb-false}
-use Rattle.bools.specs.Tests.{both, passed}
+use Rattle.bools.specs.Laws.Tests.{both, passed}
 use Rattle.splice.specs.Splice.{splice}
 use Rattle.splice.specs.Laws.Splice.{splice-over}
 use Rattle.book_laws.specs.Bytes.{below}

@@ -11,7 +11,7 @@ use lib.Dec.{eqb, ltb}
 use lib.ListN.{length, getD, take, drop, length-append, length-drop}
 use lib.Seq.{append-snoc, getD-append-seam, getD-append-add, getD-at, getD-drop, drop-cons, drop-drop, take-add, take-suc}
 use borrow.Author.Tests.{ltb-true, eqb-true, eq-eqb}
-use Rattle.bools.specs.Tests.{both}
+use Rattle.bools.specs.Laws.Tests.{both}
 use Rattle.book_laws.specs.Bytes.{numberBytes, numberAt, wordBytes, wordAt, wordsBytes, wordsAt, stands, below}
 
 -- Lists of fields and of bytes.

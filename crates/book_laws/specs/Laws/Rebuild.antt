@@ -9,7 +9,7 @@ use native.Mathlib.Omega.{arith}
 use lib.ListN.{length, take, drop, length-append}
 use lib.Seq.{take-add, drop-length}
 use borrow.Author.Tests.{eq-eqb, lt-ltb}
-use Rattle.bools.specs.Tests.{both}
+use Rattle.bools.specs.Laws.Tests.{both}
 use Rattle.splice.specs.Splice.{splice}
 use Rattle.book_laws.specs.Bytes.{numberBytes, wordAt, wordsAt, wordsBytes, stands, below}
 use Rattle.book_laws.specs.Layout.{Layout, recordFields, recordLength, trailerLength}

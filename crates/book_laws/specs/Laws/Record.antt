@@ -10,7 +10,7 @@ use lib.Dec.{eqb, ltb}
 use lib.ListN.{length, getD, take, drop, length-append}
 use lib.Seq.{take-at, drop-at}
 use borrow.Author.Tests.{eqb-true, eqb-false, eq-eqb, lt-ltb}
-use Rattle.bools.specs.Tests.{both}
+use Rattle.bools.specs.Laws.Tests.{both}
 use Rattle.book_laws.specs.Bytes.{wordAt, wordsAt, wordsBytes, below}
 use Rattle.book_laws.specs.Layout.{Layout, recordFields, recordLength}
 use Rattle.book_laws.specs.Format.{fieldsOf, recordBytes, recordsBytes}

@@ -8,7 +8,7 @@ use native.Mathlib.Omega.{arith}
 use lib.Dec.{eqb, ltb, lit≤}
 use lib.ListN.{length}
 use borrow.Author.Tests.{ltb-false, eqb-true, not-false, eq-eqb, ne-eqb}
-use Rattle.bools.specs.Tests.{neither, passed}
+use Rattle.bools.specs.Laws.Tests.{neither, passed}
 use Rattle.book_laws.specs.Bytes.{stands}
 use Rattle.book_laws.specs.Layout.{Layout, recordLength, trailerLength}
 use Rattle.book_laws.specs.Format.{countAt, distanceAt, lengthAt}

@@ -7,7 +7,7 @@ use native.Mathlib.Omega.{arith}
 use borrow.Author.Needs.{needs}
 use lib.ListN.{length, take}
 use lib.Seq.{length-take-le}
-use Rattle.bools.specs.Tests.{other-outcome}
+use Rattle.bools.specs.Laws.Tests.{other-outcome}
 use Rattle.input.specs.State.{saidHere}
 use Rattle.line_in_place.specs.declared.Line.{Line}
 use Rattle.line_in_place.specs.Standing.{standing}

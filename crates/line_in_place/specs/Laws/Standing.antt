@@ -7,7 +7,7 @@ use native.Mathlib.Omega.{arith}
 use borrow.Author.Tests.{lt-ltb, le-ltb, ltb-true}
 use lib.Dec.{ltb}
 use lib.ListN.{length, getD, drop}
-use Rattle.bools.specs.Tests.{other-outcome}
+use Rattle.bools.specs.Laws.Tests.{other-outcome}
 use Rattle.line_in_place.specs.declared.Line.{Line}
 use Rattle.line_in_place.specs.Standing.{lineEnd, lineOf, standing}
 use Rattle.text.specs.Answer.{answer, noCase}

@@ -8,7 +8,7 @@ use native.Mathlib.Nat.{suc-ne-zero, lt-of-not-le, mul-le-mul}
 use native.Mathlib.Omega.{arith}
 use lib.Dec.{eqb}
 use borrow.Author.Tests.{ltb-false, eqb-true, eqb-false}
-use Rattle.bools.specs.Tests.{neither, not-both, passed}
+use Rattle.bools.specs.Laws.Tests.{neither, not-both, passed}
 use Rattle.exact.specs.Fraction.{_over_, whole, _≤F_, _<F_}
 use Rattle.formulas.specs.Refusals.{skinRefused, eddyRefused, dielectricRefused, currentRefused}
 use Rattle.formulas.specs.Dielectric.{permittedRise, currentRise}

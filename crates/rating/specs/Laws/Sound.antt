@@ -10,7 +10,7 @@ use lib.Dec.{T, leb}
 use lib.IntN.{ℤ, pos, negℤ, _-ℤ_}
 use lib.Signed.{_≤ℤ_, leZ, leZ-yes}
 use borrow.Author.Tests.{leb-true}
-use Rattle.bools.specs.Tests.{both}
+use Rattle.bools.specs.Laws.Tests.{both}
 use Rattle.formulas.specs.Laws.Ranges.{In}
 use Rattle.fields.specs.Fields as Field
 use Rattle.rating.specs.Within.{within, withinZ}

@@ -10,7 +10,7 @@ use native.Mathlib.Omega.{arith}
 use borrow.Author.Tests.{le-leb, ne-eqb, ltb-true, leb-true}
 use lib.Dec.{leb, ltb, lit<}
 use lib.ListN.{length, getD, drop}
-use Rattle.bools.specs.Tests.{both}
+use Rattle.bools.specs.Laws.Tests.{both}
 use Rattle.text.specs.declared.number.Reading.the-variants.{Number}
 use Rattle.text.specs.Gather.{piece}
 use Rattle.text.specs.Leading.{digitsEnd, DigitsIn, LeadingDigits, isNumber}

@@ -9,7 +9,7 @@ use borrow.Author.Tests.{le-ltb, ne-eqb, not-true}
 use lib.Dec.{eqb}
 use lib.ListN.{length, getD, length-append}
 use lib.Seq.{take-append-seam, drop-append-seam, getD-append-seam, take-length}
-use Rattle.bools.specs.Tests.{both}
+use Rattle.bools.specs.Laws.Tests.{both}
 use Rattle.text.specs.Line.{Said, passedOver, aCase, unreadable, field, fields, says, textLength, longestLine, readLineOf}
 use Rattle.text.specs.Number.{isDigit, isNumeral, every, readDigits, readNumber}
 use Rattle.text.specs.Laws.Number.{every-at, differ}

@@ -2,7 +2,7 @@
 -- Assumes nothing.
 use native.Mathlib.Omega.{arith}
 use borrow.Author.Needs.{needs}
-use Rattle.bools.specs.Tests.{other-outcome}
+use Rattle.bools.specs.Laws.Tests.{other-outcome}
 use Rattle.line_in_place.specs.Laws.NumberAt.{with-sign}
 use Rattle.text.specs.Laws.Leading.{number-in}
 use Rattle.line_in_place.proofs.number.negative_at.Statement.{statement}

@@ -12,7 +12,7 @@ use borrow.Author.Tests.{not-false}
 use lib.Dec.{eqb, lit≤}
 use lib.ListN.{length, getD, take, set, length-set}
 use lib.Seq.{take-all, take-suc-set}
-use Rattle.bools.specs.Tests.{other-outcome}
+use Rattle.bools.specs.Laws.Tests.{other-outcome}
 use Rattle.line_in_place.specs.NumberAt.{NumberAt}
 use Rattle.line_in_place.specs.Plain.{PlainLine, longestPlain}
 use Rattle.line_in_place.specs.Laws.Row.{Row, row-none, row-more, row-ends}

@@ -6,7 +6,7 @@ use Prim.Native.Nat.{_*_, _≤_}
 use native.Mathlib.Omega.{arith}
 use lib.Dec.{ltb}
 use borrow.Author.Tests.{ltb-false}
-use Rattle.bools.specs.Tests.{neither, not-both}
+use Rattle.bools.specs.Laws.Tests.{neither, not-both}
 use Rattle.formulas.specs.Tables.{ks, kp}
 use Rattle.formulas.specs.Skin.{skinRatio}
 use Rattle.formulas.specs.Refusals.{skinRefused, eddyRefused}

@@ -4,7 +4,7 @@
 use Prim.Native.Nat.{_-_}
 use native.Mathlib.Omega.{arith}
 use borrow.Author.Tests.{eqb-true, ltb-true}
-use Rattle.bools.specs.Tests.{both}
+use Rattle.bools.specs.Laws.Tests.{both}
 use Rattle.exact.specs.Rounding.{up}
 use Rattle.formulas.specs.Laws.LogRange.{up-bounded}
 use Rattle.stages.proofs.Series.{Summed, fits, product-most, next-fits, begin, more-total, more, done, ended-up, term-up}

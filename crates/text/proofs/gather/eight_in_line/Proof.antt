@@ -9,7 +9,7 @@ use native.Mathlib.Omega.{arith}
 use borrow.Author.Needs.{needs}
 use lib.ListN.{length, getD}
 use Rattle.text.specs.Gather.{isInLine}
-use Rattle.bools.specs.Tests.{both}
+use Rattle.bools.specs.Laws.Tests.{both}
 use Rattle.text.specs.Laws.Runs.{run-more}
 use Rattle.text.specs.Words.{runEnd}
 use Rattle.text.proofs.gather.eight_in_line.Statement.{statement}

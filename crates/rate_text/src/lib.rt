@@ -11,7 +11,7 @@ ghost use Rattle.splice.specs.Put.{Put};
 use decimals::put_byte;
 use decimals::put_decimal;
 use decimals::put_number;
-use rating::rate::Rated;
+use rating::rate::Answer;
 use rating::rate::SHEET;
 use rating::rate::rate;
 use text::bytes::put_bytes;
@@ -39,7 +39,7 @@ fn put_sheet(out: &mut [u8], at: usize, xs: [u64; SHEET]) -> usize
 }
 
 // Writes the line for a case.
-fn put_answer(out: &mut [u8], at: usize, a: Rated) -> usize
+fn put_answer(out: &mut [u8], at: usize, a: Answer) -> usize
     requires { ⌜ at + answerRoom ≤ length (now out) ⌝ }
     ensures { λ r. ⌜ Put (now (out .entry)) at (textOf (answerOf a)) (now (out .exit)) r ⌝ }
     ensures { λ r. ⌜ r ≤ at + answerRoom ⌝ }

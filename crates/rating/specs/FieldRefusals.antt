@@ -1,5 +1,5 @@
--- docs/RATING.md, 'The refusals': those that look at the fields alone, 1 to 7, as tests that a case passes, and the number of the first
--- one that it fails. Assumes nothing.
+-- docs/RATING.md, 'The refusals': those that look at the fields alone, 1 to 7, each as a test that refuses, and the number of the first
+-- that does. Assumes nothing.
 use mathlib.Core.Bool.{Bool, cond, not, _&&_}
 use mathlib.Core.List.{List}
 use Prim.Native.Nat.{ℕ, _*_}
@@ -11,12 +11,12 @@ use Rattle.rating.specs.Within.{within, withinZ}
 use Rattle.rating.specs.Arrangements.{own}
 
 -- 1
-unfoldable pub arrangementHeld : List ℕ → Bool
-arrangementHeld x = own x .known
+unfoldable pub arrangementRefused : List ℕ → Bool
+arrangementRefused x = not (own x .known)
 
 -- 2
-unfoldable pub conductorHeld : List ℕ → Bool
-conductorHeld x = within 1 8 (Field.conductor x)
+unfoldable pub conductorRefused : List ℕ → Bool
+conductorRefused x = not (within 1 8 (Field.conductor x))
 
 -- 3, in three groups: fields 2 to 9; 10 to 16; and 22 to 25. The arrangement has the limits of fields 17 to 21.
 unfoldable pub conductorLimits : List ℕ → Bool
@@ -47,39 +47,41 @@ thermalLimits x =
     && within 0 10000000 (Field.t3 x)
     && within 10000 20000000 (Field.t4 x)
 
-unfoldable pub limitsHeld : List ℕ → Bool
-limitsHeld x = conductorLimits x && sheathLimits x && thermalLimits x && own x .limits x
+unfoldable pub limitRefused : List ℕ → Bool
+limitRefused x = not (conductorLimits x && sheathLimits x && thermalLimits x && own x .limits x)
 
--- 4: the fields that the arrangement does not have are zero
-unfoldable pub strayHeld : List ℕ → Bool
-strayHeld x = own x .unused x
+-- 4: not all fields that the arrangement does not have are zero
+unfoldable pub strayRefused : List ℕ → Bool
+strayRefused x = not (own x .unused x)
 
--- 5: dc ≤ ds, 105 ds ≤ 100 Di, Di ≤ d; the arrangement adds d ≤ s and what its armour asks
-unfoldable pub geometryHeld : List ℕ → Bool
-geometryHeld x =
-    leb (Field.conductorDiameter x) (Field.screenDiameter x)
+-- 5: not dc ≤ ds, or 105 ds > 100 Di, or not Di ≤ d; the arrangement adds d ≤ s and what its armour asks
+unfoldable pub geometryRefused : List ℕ → Bool
+geometryRefused x =
+    not
+    (leb (Field.conductorDiameter x) (Field.screenDiameter x)
     && leb (105 * Field.screenDiameter x) (100 * Field.insulationDiameter x)
     && leb (Field.insulationDiameter x) (Field.sheathDiameter x)
-    && own x .geometry x
+    && own x .geometry x)
 
--- 6: θc - θa is at least 500, and the sheath is not hotter than θc; nor is what armour the arrangement has
-unfoldable pub heatHeld : List ℕ → Bool
-heatHeld x =
-    leZ (pos 500) (Field.conductorTemperature x -ℤ Field.ambientTemperature x)
+-- 6: θc - θa is below 500, or the sheath is hotter than θc, or what armour the arrangement has
+unfoldable pub heatRefused : List ℕ → Bool
+heatRefused x =
+    not
+    (leZ (pos 500) (Field.conductorTemperature x -ℤ Field.ambientTemperature x)
     && leZ (Field.sheathTemperature x) (Field.conductorTemperature x)
-    && own x .heat x
+    && own x .heat x)
 
--- 7: sheath and armour are of the metals that the arrangement asks for
-unfoldable pub metalHeld : List ℕ → Bool
-metalHeld x = own x .metal x
+-- 7: sheath or armour is not of the metal that the arrangement asks for
+unfoldable pub metalRefused : List ℕ → Bool
+metalRefused x = not (own x .metal x)
 
 -- the number of the first refusal among 1 to 7 that is given, or 0
 unfoldable pub fieldRefusal : List ℕ → ℕ
 fieldRefusal x =
-    cond (not (arrangementHeld x)) 1
-    (cond (not (conductorHeld x)) 2
-    (cond (not (limitsHeld x)) 3
-    (cond (not (strayHeld x)) 4
-    (cond (not (geometryHeld x)) 5
-    (cond (not (heatHeld x)) 6
-    (cond (not (metalHeld x)) 7 0))))))
+    cond (arrangementRefused x) 1
+    (cond (conductorRefused x) 2
+    (cond (limitRefused x) 3
+    (cond (strayRefused x) 4
+    (cond (geometryRefused x) 5
+    (cond (heatRefused x) 6
+    (cond (metalRefused x) 7 0))))))

@@ -6,7 +6,7 @@ use mathlib.Core.List.{List, [], _∷_}
 use Prim.Native.Nat.{ℕ}
 use lib.Dec.{eqb}
 use lib.ListN.{replicate}
-use Rattle.rating.specs.declared.rate.Rated.{Rated}
+use Rattle.rating.specs.declared.rate.Answer as Code
 use Rattle.formulas.specs.Refusals.{skinRefused, eddyRefused, dielectricRefused, currentRefused}
 use Rattle.rating.specs.Values.{R', Rs, B, zs, zp, ys, yp, Wd, riseOf}
 use Rattle.rating.specs.Arrangements.{own}
@@ -20,7 +20,7 @@ pub record Answer : Type 0 where
   pub sheet : List ℕ
 
 -- what `rate` returns, as an answer
-abbrev pub answerOf : Rated → Answer
+abbrev pub answerOf : Code.Answer → Answer
 answerOf r = record { number = r .answer; rating = r .rating; sheet = r .sheet }
 
 unfoldable pub refused : ℕ → Answer

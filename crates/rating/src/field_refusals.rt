@@ -1,5 +1,5 @@
 // Refusals 1 to 7, which look at the fields alone: a test for each, and the number of the first that is not passed.
-ghost use mathlib.Core.Bool.{cond, not};
+ghost use mathlib.Core.Bool.{cond};
 ghost use mathlib.Core.Path.{_≡_};
 ghost use lib.IntN.{pos, _-ℤ_};
 ghost use lib.Signed.{leZ};
@@ -63,10 +63,10 @@ fn warmer(conductor: u32, ambient: u32) -> bool
     500 <= signed(conductor) - signed(ambient)
 }
 
-fn conductor_held(x: Case) -> bool
-    ensures { λ r. ⌜ r ≡ FieldRefusals.conductorHeld x ⌝ }
+fn conductor_refused(x: Case) -> bool
+    ensures { λ r. ⌜ r ≡ FieldRefusals.conductorRefused x ⌝ }
 {
-    within(1, 8, x[CONDUCTOR])
+    !within(1, 8, x[CONDUCTOR])
 }
 
 fn conductor_limits(x: Case) -> bool
@@ -104,48 +104,48 @@ fn thermal_limits(x: Case) -> bool
 }
 
 // With what the arrangement answered.
-fn limits_held(x: Case, its: bool) -> bool
+fn limit_refused(x: Case, its: bool) -> bool
     requires { ⌜ its ≡ own x .limits x ⌝ }
-    ensures { λ r. ⌜ r ≡ FieldRefusals.limitsHeld x ⌝ }
+    ensures { λ r. ⌜ r ≡ FieldRefusals.limitRefused x ⌝ }
 {
-    conductor_limits(x) & sheath_limits(x) & thermal_limits(x) & its
+    !(conductor_limits(x) & sheath_limits(x) & thermal_limits(x) & its)
 }
 
-fn geometry_held(x: Case, its: bool) -> bool
+fn geometry_refused(x: Case, its: bool) -> bool
     requires { ⌜ its ≡ own x .geometry x ⌝ }
-    ensures { λ r. ⌜ r ≡ FieldRefusals.geometryHeld x ⌝ }
+    ensures { λ r. ⌜ r ≡ FieldRefusals.geometryRefused x ⌝ }
 {
-    (x[CONDUCTOR_DIAMETER] <= x[SCREEN_DIAMETER])
+    !((x[CONDUCTOR_DIAMETER] <= x[SCREEN_DIAMETER])
         & (105 * number(x[SCREEN_DIAMETER]) <= 100 * number(x[INSULATION_DIAMETER]))
         & (x[INSULATION_DIAMETER] <= x[SHEATH_DIAMETER])
-        & its
+        & its)
 }
 
-fn heat_held(x: Case, its: bool) -> bool
+fn heat_refused(x: Case, its: bool) -> bool
     requires { ⌜ its ≡ own x .heat x ⌝ }
-    ensures { λ r. ⌜ r ≡ FieldRefusals.heatHeld x ⌝ }
+    ensures { λ r. ⌜ r ≡ FieldRefusals.heatRefused x ⌝ }
 {
-    warmer(x[CONDUCTOR_TEMPERATURE], x[AMBIENT_TEMPERATURE])
+    !(warmer(x[CONDUCTOR_TEMPERATURE], x[AMBIENT_TEMPERATURE])
         & not_hotter(x[SHEATH_TEMPERATURE], x[CONDUCTOR_TEMPERATURE])
-        & its
+        & its)
 }
 
-// The number where the test was not passed, else the rest.
-fn unless(passed: bool, number: u32, rest: u32) -> u32
-    ensures { λ r. ⌜ r ≡ cond (not passed) number rest ⌝ }
+// The number where its refusal is given, else the rest.
+fn first(refused: bool, number: u32, rest: u32) -> u32
+    ensures { λ r. ⌜ r ≡ cond refused number rest ⌝ }
 {
-    if passed { rest } else { number }
+    if refused { number } else { rest }
 }
 
 pub(crate) fn field_refusal(x: Case, rules: Rules) -> u32
     requires { ⌜ Asks (own x) x rules ⌝ }
     ensures { λ r. ⌜ r ≡ FieldRefusals.fieldRefusal x ⌝ }
 {
-    let from_metal = unless(rules.metal, 7, 0);
-    let from_heat = unless(heat_held(x, rules.heat), 6, from_metal);
-    let from_geometry = unless(geometry_held(x, rules.geometry), 5, from_heat);
-    let from_stray = unless(rules.unused, 4, from_geometry);
-    let from_limits = unless(limits_held(x, rules.limits), 3, from_stray);
-    let from_conductor = unless(conductor_held(x), 2, from_limits);
-    unless(rules.known, 1, from_conductor)
+    let from_metal = first(!rules.metal, 7, 0);
+    let from_heat = first(heat_refused(x, rules.heat), 6, from_metal);
+    let from_geometry = first(geometry_refused(x, rules.geometry), 5, from_heat);
+    let from_stray = first(!rules.unused, 4, from_geometry);
+    let from_limit = first(limit_refused(x, rules.limits), 3, from_stray);
+    let from_conductor = first(conductor_refused(x), 2, from_limit);
+    first(!rules.known, 1, from_conductor)
 }

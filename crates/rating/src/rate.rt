@@ -41,16 +41,16 @@ const MOST_CURRENT: u64 = 5_000_000;
 pub const SHEET: usize = 13;
 
 // The answer, 0 or the refusal's number; the rating in mA; and the sheet: R', Rs, RA, B, ys, yp, R, X, S, W, Wd, dd, E.
-pub struct Rated {
+pub struct Answer {
     pub answer: u32,
     pub rating: u32,
     pub sheet: [u64; SHEET],
 }
 
-fn refuse(number: u32) -> Rated
+fn refuse(number: u32) -> Answer
     ensures { λ r. ⌜ answerOf r ≡ refused number ⌝ }
 {
-    Rated {
+    Answer {
         answer: number,
         rating: 0,
         sheet: [0; SHEET],
@@ -92,7 +92,7 @@ pub struct Early {
     pub rs: u64,
 }
 
-fn load(x: Case, p: Early) -> Rated
+fn load(x: Case, p: Early) -> Answer
     requires { ⌜ Fit (own x) x × Holds x p ⌝ }
     ensures { λ r. ⌜ answerOf r ≡ loaded x ⌝ }
 {
@@ -109,7 +109,7 @@ fn load(x: Case, p: Early) -> Rated
     if MOST_CURRENT < i {
         return refuse(11);
     }
-    Rated {
+    Answer {
         answer: 0,
         rating: i as u32,
         sheet: [
@@ -131,7 +131,7 @@ fn load(x: Case, p: Early) -> Rated
 }
 
 // `eddies`: whether refusal 9 is tried.
-fn judge(x: Case, eddies: bool) -> Rated
+fn judge(x: Case, eddies: bool) -> Answer
     requires { ⌜ (fieldRefusal x ≡ 0) × (eddies ≡ own x .eddies) ⌝ }
     ensures { λ r. ⌜ answerOf r ≡ judged x ⌝ }
 {
@@ -149,7 +149,7 @@ fn judge(x: Case, eddies: bool) -> Rated
     load(x, Early { rc, zs, zp, b, rs })
 }
 
-pub fn rate(x: Case) -> Rated
+pub fn rate(x: Case) -> Answer
     ensures { λ r. ⌜ answerOf r ≡ rateOf x ⌝ }
 {
     let rules = rules_of(x);

@@ -13,7 +13,7 @@ mod sheet;
 ghost use Prim.Native.Nat.{_≤_};
 ghost use lib.ListN.{length};
 use fields::Case;
-use rating::rate::Rated;
+use rating::rate::Answer;
 use sheet::put_sheet;
 
 // More than any work sheet has.
@@ -21,7 +21,7 @@ pub const ROOM: usize = 8192;
 
 // Writes the work sheet at the front of a buffer and answers its length; in a buffer that is too
 // small it writes nothing.
-pub fn work_sheet(out: &mut [u8], x: Case, r: Rated) -> usize
+pub fn work_sheet(out: &mut [u8], x: Case, r: Answer) -> usize
     ensures { λ n. ⌜ n ≤ length (now (out .entry)) ⌝ }
 {
     if out.len() < ROOM {

@@ -11,13 +11,13 @@ use crate::refusals::put_refusal;
 use crate::rows::put_text;
 use fields::ARRANGEMENT;
 use fields::Case;
-use rating::rate::Rated;
+use rating::rate::Answer;
 
 // The arrangement that has armour.
 const ARMOURED: u32 = 5;
 
 // The sheet and the rating of a case that is not refused.
-fn put_rated(out: &mut [u8], at: usize, r: Rated, armour: bool) -> usize
+fn put_rated(out: &mut [u8], at: usize, r: Answer, armour: bool) -> usize
     requires { ⌜ at ≤ length (now out) ⌝ }
     ensures { λ n. ⌜ n ≤ length (now (out .entry)) ⌝ }
 {
@@ -37,7 +37,7 @@ fn put_rated(out: &mut [u8], at: usize, r: Rated, armour: bool) -> usize
 }
 
 // What became of the case.
-fn put_verdict(out: &mut [u8], at: usize, r: Rated, armour: bool) -> usize
+fn put_verdict(out: &mut [u8], at: usize, r: Answer, armour: bool) -> usize
     requires { ⌜ at ≤ length (now out) ⌝ }
     ensures { λ n. ⌜ n ≤ length (now (out .entry)) ⌝ }
 {
@@ -48,7 +48,7 @@ fn put_verdict(out: &mut [u8], at: usize, r: Rated, armour: bool) -> usize
 }
 
 // The armour is shown where there is one, and in a refused case, which shows all that was given.
-pub fn put_sheet(out: &mut [u8], at: usize, x: Case, r: Rated) -> usize
+pub fn put_sheet(out: &mut [u8], at: usize, x: Case, r: Answer) -> usize
     requires { ⌜ at ≤ length (now out) ⌝ }
     ensures { λ n. ⌜ n ≤ length (now (out .entry)) ⌝ }
 {

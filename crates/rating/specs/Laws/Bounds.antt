@@ -1,6 +1,6 @@
 -- How large an answer is: its number is at most 11 and its rating at most 5000000, so both fit a field of a record.
 -- Assumes nothing.
-use mathlib.Core.Bool.{Bool, true, false, cond, not, _&&_}
+use mathlib.Core.Bool.{Bool, true, false, cond, _&&_}
 use mathlib.Core.List.{List}
 use mathlib.Core.Path.{_≡_, refl}
 use Prim.Native.Nat.{ℕ, _≤_}
@@ -10,13 +10,13 @@ use Rattle.formulas.specs.Refusals.{skinRefused, eddyRefused, dielectricRefused
 use Rattle.rating.specs.Values.{Rs, B, zs, zp, riseOf}
 use Rattle.rating.specs.Arrangements.{own}
 use Rattle.rating.specs.FieldRefusals.{
-  arrangementHeld,
-  conductorHeld,
-  limitsHeld,
-  strayHeld,
-  geometryHeld,
-  heatHeld,
-  metalHeld,
+  arrangementRefused,
+  conductorRefused,
+  limitRefused,
+  strayRefused,
+  geometryRefused,
+  heatRefused,
+  metalRefused,
   fieldRefusal,
 }
 use Rattle.rating.specs.Stage10.{numbersOf, currentOf}
@@ -29,12 +29,12 @@ either-most m false n≤ rest≤ = rest≤
 fieldRefusal-most : (x : List ℕ) → fieldRefusal x ≤ 11
 unfolding fieldRefusal
 fieldRefusal-most x =
-    either-most 11 (not (arrangementHeld x)) (lit≤ tt)
-    (either-most 11 (not (conductorHeld x)) (lit≤ tt)
-    (either-most 11 (not (limitsHeld x)) (lit≤ tt)
-    (either-most 11 (not (strayHeld x)) (lit≤ tt)
-    (either-most 11 (not (geometryHeld x)) (lit≤ tt)
-    (either-most 11 (not (heatHeld x)) (lit≤ tt) (either-most 11 (not (metalHeld x)) (lit≤ tt) (lit≤ tt)))))))
+    either-most 11 (arrangementRefused x) (lit≤ tt)
+    (either-most 11 (conductorRefused x) (lit≤ tt)
+    (either-most 11 (limitRefused x) (lit≤ tt)
+    (either-most 11 (strayRefused x) (lit≤ tt)
+    (either-most 11 (geometryRefused x) (lit≤ tt)
+    (either-most 11 (heatRefused x) (lit≤ tt) (either-most 11 (metalRefused x) (lit≤ tt) (lit≤ tt)))))))
 
 pub record Bounded (a : Answer) : Type 0 where
   pub number-most : a .number ≤ 11

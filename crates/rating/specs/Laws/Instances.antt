@@ -34,16 +34,16 @@ use Rattle.rating.specs.Arrangement.{alternating}
 use Rattle.rating.specs.SlType.{armourLimits, slType}
 use Rattle.rating.specs.Arrangements.{arrangementOf}
 use Rattle.rating.specs.FieldRefusals.{
-  arrangementHeld,
-  conductorHeld,
-  limitsHeld,
+  arrangementRefused,
+  conductorRefused,
+  limitRefused,
   conductorLimits,
   sheathLimits,
   thermalLimits,
-  strayHeld,
-  geometryHeld,
-  heatHeld,
-  metalHeld,
+  strayRefused,
+  geometryRefused,
+  heatRefused,
+  metalRefused,
   fieldRefusal,
 }
 use Rattle.rating.specs.Stage10.{N, E, currentOf}
@@ -88,8 +88,8 @@ chosen =
 
 -- computed from the definitions alone
 pub answer : (rateOf cable .number ≡ 0) × (rateOf cable .rating ≡ 457106)
-unfolding judged loaded rated fieldRefusal arrangementHeld conductorHeld limitsHeld conductorLimits sheathLimits thermalLimits
-    strayHeld geometryHeld heatHeld metalHeld arrangementOf slType armourLimits alternating skinRefused eddyRefused
+unfolding judged loaded rated fieldRefusal arrangementRefused conductorRefused limitRefused conductorLimits sheathLimits thermalLimits
+    strayRefused geometryRefused heatRefused metalRefused arrangementOf slType armourLimits alternating skinRefused eddyRefused
     dielectricRefused currentRefused R' Rs RA B zs zp ys G yp R X XLow Wd riseOf N E currentOf conductorMetal
     temperatureFactor resistance reactance reactanceLow skinReactance skinRatio skinRatioSquared
     factor skinFactor spacingRatio proximityH proximityG proximityFactor acResistance logLow logHigh thirteenTerms series firstPower

@@ -2,7 +2,7 @@
 -- which the stages and the bounds on them take. What an arrangement asks for besides stays a test, which its own laws open. Assumes
 -- nothing.
 use mathlib.Core.Path.{_≡_, refl, subst⁻¹}
-use mathlib.Core.Bool.{Bool, true, false, cond, not}
+use mathlib.Core.Bool.{Bool, true, false, cond, not, true≢false}
 use mathlib.Core.List.{List}
 use Prim.Native.Nat.{ℕ, suc, _*_, _≤_}
 use native.Mathlib.Nat.{suc-ne-zero}
@@ -16,15 +16,15 @@ use Rattle.fields.specs.Fields as Field
 use Rattle.rating.specs.Within.{within, withinZ}
 use Rattle.rating.specs.Arrangements.{own}
 use Rattle.rating.specs.FieldRefusals.{
-  arrangementHeld,
-  conductorHeld,
+  arrangementRefused,
+  conductorRefused,
   conductorLimits,
   sheathLimits,
   thermalLimits,
-  limitsHeld,
-  strayHeld,
-  geometryHeld,
-  heatHeld,
+  limitRefused,
+  strayRefused,
+  geometryRefused,
+  heatRefused,
   fieldRefusal,
 }
 
@@ -76,33 +76,38 @@ in-rangeZ low high z e =
     record { least = leZ-true low z (p .0); most = leZ-true z high (p .1) }
 
 -- a refusal that is not given, and the next ones
-passed : (held : Bool) (n : ℕ) {rest : ℕ} → cond (not held) (suc n) rest ≡ 0 → (held ≡ true) × (rest ≡ 0)
-passed true n e = (refl, e)
-passed false n e = absurd (suc-ne-zero n e)
+passed : (refused : Bool) (n : ℕ) {rest : ℕ} → cond refused (suc n) rest ≡ 0 → (refused ≡ false) × (rest ≡ 0)
+passed false n e = (refl, e)
+passed true n e = absurd (suc-ne-zero n e)
 
--- the tests of refusals 1 to 7, all passed
-record Held (x : List ℕ) : Type 0 where
-  conductor : conductorHeld x ≡ true
-  limits : limitsHeld x ≡ true
-  geometry : geometryHeld x ≡ true
-  heat : heatHeld x ≡ true
+-- what a test that does not refuse asks for holds
+holds : (b : Bool) → not b ≡ false → b ≡ true
+holds true e = refl
+holds false e = absurd (true≢false e)
 
-held : (x : List ℕ) → fieldRefusal x ≡ 0 → Held x
+-- none of refusals 1 to 7 is given
+record Unrefused (x : List ℕ) : Type 0 where
+  conductor : conductorRefused x ≡ false
+  limits : limitRefused x ≡ false
+  geometry : geometryRefused x ≡ false
+  heat : heatRefused x ≡ false
+
+unrefused : (x : List ℕ) → fieldRefusal x ≡ 0 → Unrefused x
 unfolding fieldRefusal
-held x none-given =
-    let one = passed (arrangementHeld x) 0 none-given in
-    let two = passed (conductorHeld x) 1 (one .1) in
-    let three = passed (limitsHeld x) 2 (two .1) in
-    let four = passed (strayHeld x) 3 (three .1) in
-    let five = passed (geometryHeld x) 4 (four .1) in
-    let six = passed (heatHeld x) 5 (five .1) in
+unrefused x none-given =
+    let one = passed (arrangementRefused x) 0 none-given in
+    let two = passed (conductorRefused x) 1 (one .1) in
+    let three = passed (limitRefused x) 2 (two .1) in
+    let four = passed (strayRefused x) 3 (three .1) in
+    let five = passed (geometryRefused x) 4 (four .1) in
+    let six = passed (heatRefused x) 5 (five .1) in
     record { conductor = two .0; limits = three .0; geometry = five .0; heat = six .0 }
 
 pub sound : (x : List ℕ) → fieldRefusal x ≡ 0 → Sound x
-unfolding conductorHeld limitsHeld conductorLimits sheathLimits thermalLimits geometryHeld heatHeld
+unfolding conductorRefused limitRefused conductorLimits sheathLimits thermalLimits geometryRefused heatRefused
 sound x none-given =
-    let h : Held x = held x none-given in
-    let its-own = both _ _ (h .limits) in
+    let given : Unrefused x = unrefused x none-given in
+    let its-own = both _ _ (holds _ (given .limits)) in
     let thermal = both _ _ (its-own .0) in
     let sheath = both _ _ (thermal .0) in
     -- fields 2 to 9, from the last
@@ -125,12 +130,12 @@ sound x none-given =
     let t3 = both _ _ (t4 .0) in
     let t1 = both _ _ (t3 .0) in
     -- geometry and heat
-    let placed = both _ _ (h .geometry) in
+    let placed = both _ _ (holds _ (given .geometry)) in
     let sheathed = both _ _ (placed .0) in
     let core = both _ _ (sheathed .0) in
-    let rise = both _ _ (both _ _ (h .heat) .0) in
+    let rise = both _ _ (both _ _ (holds _ (given .heat)) .0) in
     record {
-      conductor = in-range _ _ _ (h .conductor);
+      conductor = in-range _ _ _ (holds _ (given .conductor));
       frequency = in-range _ _ _ (frequency .0);
       hot = in-rangeZ _ _ _ (frequency .1);
       ambient = in-rangeZ _ _ _ (ambient .1);

@@ -1,15 +1,15 @@
--- `geometry_held` is the definition: each test is its test.
+-- `geometry_refused` is the definition: each test is its test.
 use borrow.Author.Needs.{needs}
-use Rattle.rating.specs.FieldRefusals.{geometryHeld}
-use Rattle.rating.proofs.field_refusals.geometry_held.Statement.{statement}
-use Rattle.rating.proofs.field_refusals.geometry_held.Tie as tie
+use Rattle.rating.specs.FieldRefusals.{geometryRefused}
+use Rattle.rating.proofs.field_refusals.geometry_refused.Statement.{statement}
+use Rattle.rating.proofs.field_refusals.geometry_refused.Tie as tie
 
 returns : tie.Need-returns
-unfolding geometryHeld
+unfolding geometryRefused
 returns c = simp (c .before .number .ensures .0, c .number2 .ensures .0, c .before .before .pre)
 
-pub geometry-held-spec : {M : Type 1} → statement M
-geometry-held-spec =
+pub geometry-refused-spec : {M : Type 1} → statement M
+geometry-refused-spec =
     tie.close
     (tie.spec
     (λ c. search needs)

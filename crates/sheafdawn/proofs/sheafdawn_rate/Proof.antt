@@ -9,7 +9,7 @@ use denote.Ref.{now}
 use borrow.Author.Tests.{eq-eqb, ne-eqb}
 use Rattle.splice.specs.Splice.{splice}
 use Rattle.rating.specs.Rate.{answerOf, rateOf}
-use Rattle.rating.specs.declared.rate.Answer.{Answer}
+use Rattle.rating.specs.declared.rate.Answer as Code
 use Rattle.sheafdawn.specs.Calls.{call, called, rateCall, wrongLength}
 use borrow.Author.Needs.{needs}
 use Rattle.sheafdawn.proofs.sheafdawn_rate.Statement.{statement}
@@ -39,7 +39,7 @@ as-long :
 as-long out sheet rating is-14 is-13 wrote = omega (arith, ap length (wrote ∙ filled out sheet rating is-14 is-13))
 
 called-right :
-    (x out : List ℕ) {r : Answer} {m : List ℕ} → length x ≡ 26 → length out ≡ 14 → answerOf r ≡ rateOf x → m ≡ r .rating ∷ r .sheet →
+    (x out : List ℕ) {r : Code.Answer} {m : List ℕ} → length x ≡ 26 → length out ≡ 14 → answerOf r ≡ rateOf x → m ≡ r .rating ∷ r .sheet →
     call (r .answer) m ≡ rateCall x out
 unfolding rateCall called
 called-right x out is-26 is-14 rated wrote =

@@ -7,7 +7,7 @@ use lib.ListN.{length}
 use Rattle.splice.specs.Splice.{splice}
 use Rattle.splice.specs.Laws.Splice.{splice-after}
 use Rattle.rating.specs.Rate.{Answer, answerOf, rateOf}
-use Rattle.rating.specs.declared.rate.Answer.{Answer}
+use Rattle.rating.specs.declared.rate.Answer as Code
 use Rattle.book_laws.specs.Bytes.{wordsBytes}
 use Rattle.book_laws.specs.Layout.{rbk1, recordFields, recordLength}
 use Rattle.book_laws.specs.Format.{fieldsOf, recordBytes, trailerBytes}
@@ -17,7 +17,7 @@ use Rattle.book.proofs.append.put_record.Statement.{statement}
 use Rattle.book.proofs.append.put_record.Tie as tie
 
 fields-are :
-    (x : List ℕ) {r : Answer} {f : List ℕ} → answerOf r ≡ rateOf x → f ≡ x ++ (r .answer ∷ r .rating ∷ []) →
+    (x : List ℕ) {r : Code.Answer} {f : List ℕ} → answerOf r ≡ rateOf x → f ≡ x ++ (r .answer ∷ r .rating ∷ []) →
     wordsBytes f ≡ recordBytes rbk1 x
 unfolding recordBytes fieldsOf
 fields-are x {r} {f} rated made =
@@ -26,7 +26,7 @@ fields-are x {r} {f} rated made =
     ap wordsBytes (made ∙ ap₂ (λ (n i : ℕ). x ++ (n ∷ i ∷ [])) number rating)
 
 record-and-trailer :
-    (l : List ℕ) (at : ℕ) (x : List ℕ) (count : ℕ) {r : Answer} {f m n : List ℕ} → at ≤ length l → length f ≡ recordFields rbk1 →
+    (l : List ℕ) (at : ℕ) (x : List ℕ) (count : ℕ) {r : Code.Answer} {f m n : List ℕ} → at ≤ length l → length f ≡ recordFields rbk1 →
     answerOf r ≡ rateOf x → f ≡ x ++ (r .answer ∷ r .rating ∷ []) → m ≡ splice l at (wordsBytes f) →
     n ≡ splice m (at + recordLength rbk1) (trailerBytes rbk1 count) → n ≡ splice l at (recordBytes rbk1 x ++ trailerBytes rbk1 count)
 record-and-trailer l at x count {r} {f} {m} {n} h size rated made put-fields put-trailer =

@@ -5,7 +5,7 @@ use mathlib.Core.Path.{_≡_, ap, ap₂, _∙_}
 use Prim.Native.Nat.{ℕ}
 use lib.Dec.{eqb}
 use Rattle.rating.specs.Rate.{Answer, answerOf, rateOf}
-use Rattle.rating.specs.declared.rate.Answer.{Answer}
+use Rattle.rating.specs.declared.rate.Answer as Code
 use Rattle.book_laws.specs.Layout.{rbk1}
 use Rattle.book_laws.specs.Record.{caseAt, answerAt, ratingAt, agrees}
 use borrow.Author.Needs.{needs}
@@ -13,7 +13,7 @@ use Rattle.book_bytes.proofs.record.record_agrees.Statement.{statement}
 use Rattle.book_bytes.proofs.record.record_agrees.Tie as tie
 
 compared :
-    (b : List ℕ) (at : ℕ) {x : List ℕ} {r : Answer} {answer rating : ℕ} → x ≡ caseAt rbk1 b at → answerOf r ≡ rateOf x →
+    (b : List ℕ) (at : ℕ) {x : List ℕ} {r : Code.Answer} {answer rating : ℕ} → x ≡ caseAt rbk1 b at → answerOf r ≡ rateOf x →
     answer ≡ answerAt rbk1 b at → rating ≡ ratingAt rbk1 b at → eqb answer (r .answer) && eqb rating (r .rating) ≡ agrees rbk1 b at
 unfolding agrees
 compared b at {x} {r} case-is answer-is answer-read rating-read =

@@ -38,11 +38,13 @@ pub record Arrangement : Type 0 where
   pub metal : List ℕ → Bool
   -- whether refusal 9 is tried: its sheaths have eddies alone
   pub eddies : Bool
+  -- whether X is one of its values, and so the logarithm of 2s/d
+  pub reactive : Bool
   -- RA and X as the sheet shows them
   pub RA : List ℕ → ℕ
   pub X : List ℕ → ℕ
   pub numbers : List ℕ → Numbers
-  pub numbers* : (x : List ℕ) → Chosen x → Numbers*
+  pub numbers* : List ℕ → Chosen → Numbers*
 
 -- fields 17 to 21 are all zero
 unfoldable pub armourless : List ℕ → Bool
@@ -56,6 +58,6 @@ unfoldable pub alternating : (n s w : ℕ) → List ℕ → Numbers
 alternating n s w x =
     record { n = n; R = R x; S = s; W = w; dd = dielectricRise n (Wd x) (Field.t1 x) (Field.t2 x) (Field.t3 x) (Field.t4 x) }
 
-unfoldable pub alternating* : (n : ℕ) (s w : Fraction) (x : List ℕ) → Chosen x → Numbers*
+unfoldable pub alternating* : (n : ℕ) (s w : Fraction) → List ℕ → Chosen → Numbers*
 alternating* n s w x c =
     record { R = R* x c; S = s; W = w; dd = dielectricRise* n (Wd* x c) (Field.t1 x) (Field.t2 x) (Field.t3 x) (Field.t4 x) }

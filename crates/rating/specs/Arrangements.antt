@@ -22,6 +22,7 @@ noArrangement =
       heat = λ x. true;
       metal = λ x. true;
       eddies = false;
+      reactive = false;
       RA = λ x. 0;
       X = λ x. 0;
       numbers = λ x. alternating 1 0 0 x;

@@ -19,6 +19,7 @@ bothEnds =
       heat = λ x. true;
       metal = λ x. true;
       eddies = false;
+      reactive = true;
       RA = λ x. 0;
       X = X;
       numbers = λ x. alternating 1 (circulatingLoss (X x) (Rs x)) 0 x;

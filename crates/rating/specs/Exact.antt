@@ -12,7 +12,7 @@ use Rattle.rating.specs.Arrangement.{Numbers*}
 use Rattle.rating.specs.Arrangements.{own}
 use Rattle.rating.specs.Stage10.{numbersOf}
 
-module _ (x : List ℕ) (c : Chosen x) where
+module _ (x : List ℕ) (c : Chosen) where
   -- R, S, W and dd
   abbrev pub numbersOf* : Numbers*
   numbersOf* = own x .numbers* x c

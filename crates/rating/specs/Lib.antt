@@ -8,6 +8,7 @@ pub mod BothEnds
 pub mod OnePoint
 pub mod SlType
 pub mod Arrangements
+pub mod Allowed
 pub mod FieldRefusals
 pub mod Stage10
 pub mod Rate

@@ -1,6 +1,6 @@
 -- Arrangements 3 and 4: three single-core cables, in trefoil or flat with the centre cable rated, sheaths bonded at one point. The sheaths
 -- are of lead and have eddies alone (docs/RATING.md, stage 7). Assumes nothing.
-use mathlib.Core.Bool.{true}
+use mathlib.Core.Bool.{true, false}
 use Prim.Native.Nat.{ℕ}
 use lib.Dec.{leb, eqb}
 use Rattle.exact.specs.Fraction.{whole}
@@ -21,6 +21,7 @@ onePoint j =
       heat = λ x. true;
       metal = λ x. eqb (Field.sheathMetal x) 1;
       eddies = true;
+      reactive = false;
       RA = λ x. 0;
       X = λ x. 0;
       numbers = λ x. alternating 1 (eddyLoss j (B x) (Rs x) (Field.sheathDiameter x) (Field.spacing x)) 0 x;

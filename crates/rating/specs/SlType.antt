@@ -34,6 +34,7 @@ slType =
       heat = λ x. leZ (Field.armourTemperature x) (Field.conductorTemperature x);
       metal = λ x. eqb (Field.sheathMetal x) 1 && eqb (Field.armourMetal x) 6;
       eddies = false;
+      reactive = true;
       RA = RA;
       X = X;
       numbers =

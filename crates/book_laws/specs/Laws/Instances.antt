@@ -8,7 +8,7 @@ use lib.Dec.{lit<, lit≤}
 use lib.ListN.{replicate, take}
 use Rattle.exact.specs.Fraction.{whole, _≤F_, _<F_}
 use Rattle.rating.specs.Exact.{exactRise, permittedOf}
-use Rattle.rating.specs.Laws.Instances.{cable, chosen, answer}
+use Rattle.rating.specs.Laws.Instances.{cable, chosen, chosen-allowed, answer}
 use Rattle.book_laws.specs.Bytes.{numberBytes, numberAt, wordsAt, wordsBytes, stands, below}
 use Rattle.book_laws.specs.Layout.{rbk1}
 use Rattle.book_laws.specs.Format.{fieldsOf, trailerBytes}
@@ -55,11 +55,11 @@ built-again = rebuilt-whole book 130 0 refl (ap (λ a. a .number) accepts) (79 �
 
 under : exactRise cable chosen (whole 457106) ≤F whole (permittedOf cable)
 unfolding describeIn describeAt wrongTrailer stands wordsAt numberAt numberBytes wordsBytes trailerBytes book
-under = safe book 130 0 (ap (λ a. a .number) accepts) 0 (lit< tt) refl chosen
+under = safe book 130 0 (ap (λ a. a .number) accepts) 0 (lit< tt) refl chosen chosen-allowed
 
 over : whole (permittedOf cable) <F exactRise cable chosen (whole 457108)
 unfolding describeIn describeAt wrongTrailer stands wordsAt numberAt numberBytes wordsBytes trailerBytes book
-over = close book 130 0 (ap (λ a. a .number) accepts) 0 (lit< tt) refl chosen
+over = close book 130 0 (ap (λ a. a .number) accepts) 0 (lit< tt) refl chosen chosen-allowed
 
 -- The cable and the case of 26 zeros, appended after a note of two bytes.
 

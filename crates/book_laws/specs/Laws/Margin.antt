@@ -8,6 +8,8 @@ use borrow.Author.Tests.{lt-leb}
 use Rattle.exact.specs.Fraction.{whole, _≤F_, _<F_}
 use Rattle.rating.specs.Rate.{rateOf}
 use Rattle.rating.specs.Chosen.{Chosen}
+use Rattle.rating.specs.Arrangements.{own}
+use Rattle.rating.specs.Allowed.{Allowed}
 use Rattle.rating.specs.Exact.{exactRise, permittedOf}
 use Rattle.rating.specs.Laws.Margin as Case
 use Rattle.book_laws.specs.Layout.{Layout, rbk1}
@@ -55,13 +57,13 @@ module _ (b : List ℕ) (used k : ℕ) (accepts : acceptOf b used k .number ≡ 
   pub as-read : readOf b used i ≡ record { number = 0; fields = its-case ++ (answerAt rbk1 b place ∷ its-rating ∷ []) }
   as-read = as-readIn rbk1 b used k accepts i is-record
 
-  module _ (rated : answerAt rbk1 b place ≡ 0) (c : Chosen its-case) where
+  module _ (rated : answerAt rbk1 b place ≡ 0) (c : Chosen) (allowed : Allowed (own its-case) its-case c) where
     pub safe : exactRise its-case c (whole its-rating) ≤F whole (permittedOf its-case)
     safe =
         subst (λ (n : ℕ). exactRise its-case c (whole n) ≤F whole (permittedOf its-case)) (sym (judged-rightly .1))
-        (Case.safe its-case c (sym (judged-rightly .0) ∙ rated))
+        (Case.safe its-case c allowed (sym (judged-rightly .0) ∙ rated))
 
     pub close : whole (permittedOf its-case) <F exactRise its-case c (whole (its-rating + 2))
     close =
         subst (λ (n : ℕ). whole (permittedOf its-case) <F exactRise its-case c (whole (n + 2))) (sym (judged-rightly .1))
-        (Case.close its-case c (sym (judged-rightly .0) ∙ rated))
+        (Case.close its-case c allowed (sym (judged-rightly .0) ∙ rated))

@@ -12,6 +12,7 @@ use Rattle.formulas.specs.Laws.Ranges.{In, dielectricRise-most}
 use Rattle.fields.specs.Fields as Field
 use Rattle.rating.specs.Chosen.{Chosen}
 use Rattle.rating.specs.Arrangement.{Numbers, Numbers*, Arrangement, alternating, alternating*}
+use Rattle.rating.specs.Allowed.{Allowed}
 use Rattle.rating.specs.Laws.Fit.{Fit}
 use Rattle.rating.specs.Laws.Ranges.{R-range, Wd-most}
 use Rattle.rating.specs.Laws.Close.{R-close, dd-close}
@@ -32,7 +33,7 @@ pub record Close (e : Numbers*) (ν : Numbers) : Type 0 where
 pub record Lawful (a : Arrangement) : Type 0 where
   pub spaced : {x : List ℕ} → Fit a x → Field.conductorDiameter x ≤ Field.spacing x
   pub in-range : {x : List ℕ} → Fit a x → InRange (a .numbers x)
-  pub close : {x : List ℕ} (c : Chosen x) → Fit a x → Close (a .numbers* x c) (a .numbers x)
+  pub close : {x : List ℕ} {c : Chosen} → Allowed a x c → Fit a x → Close (a .numbers* x c) (a .numbers x)
 
 -- no loss at all
 pub none-lost : Within 40000 (whole 2000) (whole 0) (whole 0)
@@ -54,13 +55,13 @@ module _
       }
 
   pub alternating-close :
-      (c : Chosen x) {s* w* : Fraction} {s w : ℕ} → Within 40000 (whole 2000) s* (whole s) → Within 40000 (whole 2000) w* (whole w) →
+      {c : Chosen} → Allowed a x c → {s* w* : Fraction} {s w : ℕ} → Within 40000 (whole 2000) s* (whole s) → Within 40000 (whole 2000) w* (whole w) →
       Close (alternating* n s* w* x c) (alternating n s w x)
   unfolding alternating alternating*
-  alternating-close c s-close w-close =
+  alternating-close allowed s-close w-close =
       record {
-        R = R-close c (fit .sound) (fit .skin) (fit .proximity) spaced;
+        R = R-close allowed (fit .sound) (fit .skin) (fit .proximity) spaced;
         S = s-close;
         W = w-close;
-        dd = dd-close c (fit .sound) (n-in .most);
+        dd = dd-close allowed (fit .sound) (n-in .most);
       }

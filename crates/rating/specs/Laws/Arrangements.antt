@@ -33,7 +33,7 @@ no-arrangement-lawful =
     record {
       spaced = spaced;
       in-range = λ fit. alternating-in-range fit (spaced fit) one (lit≤ tt) (lit≤ tt);
-      close = λ c fit. alternating-close fit (spaced fit) one c none-lost none-lost;
+      close = λ allowed fit. alternating-close fit (spaced fit) one allowed none-lost none-lost;
     }
 
 -- what holds of each arrangement holds of the one that a number picks

@@ -1,5 +1,6 @@
 -- Arrangements 1 and 2: the current that circulates through the sheaths loses no more than they can, and S is close to its exact value.
 -- Assumes nothing.
+use mathlib.Core.Path.{refl}
 use mathlib.Core.List.{List}
 use Prim.Native.Nat.{ℕ, _≤_}
 use native.Mathlib.Omega.{arith}
@@ -17,6 +18,7 @@ use Rattle.fields.specs.Fields as Field
 use Rattle.rating.specs.Values.{Rs, X}
 use Rattle.rating.specs.Chosen.{Chosen, X*}
 use Rattle.rating.specs.BothEnds.{bothEnds}
+use Rattle.rating.specs.Allowed.{Allowed}
 use Rattle.rating.specs.Laws.Fit.{Fit}
 use Rattle.rating.specs.Laws.Ranges.{Rs-range, X-range, conductors-apart}
 use Rattle.rating.specs.Laws.Close.{X-close}
@@ -36,12 +38,13 @@ S-most : {x : List ℕ} → Fit bothEnds x → circulatingLoss (X x) (Rs x) ≤ 
 S-most {x} fit = omega (arith, circulatingLoss-most (X x) (Rs x), Rs-range (fit .sound))
 
 S-close :
-    {x : List ℕ} (c : Chosen x) → Fit bothEnds x →
+    {x : List ℕ} {c : Chosen} → Allowed bothEnds x c → Fit bothEnds x →
     Within 40000 (whole 2000) (circulatingLoss* (X* x c) (Rs x)) (whole (circulatingLoss (X x) (Rs x)))
-S-close c fit =
+unfolding bothEnds
+S-close allowed fit =
     let fine = fit .sound in
     let apart = both-ends-apart fit in
-    within-weaken (lit≤ tt) (whole-mono (lit≤ tt)) (circulating-close (X-range fine apart .least) (Rs-range fine) (X-close c fine apart))
+    within-weaken (lit≤ tt) (whole-mono (lit≤ tt)) (circulating-close (X-range fine apart .least) (Rs-range fine) (X-close allowed fine refl apart))
 
 pub both-ends-lawful : Lawful bothEnds
 unfolding bothEnds
@@ -49,5 +52,5 @@ both-ends-lawful =
     record {
       spaced = spaced;
       in-range = λ fit. alternating-in-range fit (spaced fit) one (S-most fit) (lit≤ tt);
-      close = λ c fit. alternating-close fit (spaced fit) one c (S-close c fit) none-lost;
+      close = λ allowed fit. alternating-close fit (spaced fit) one allowed (S-close allowed fit) none-lost;
     }

@@ -3,9 +3,9 @@
 use mathlib.Core.Path.{_≡_, refl, ap, subst}
 use mathlib.Core.List.{List, [], _∷_}
 use Prim.Native.Nat.{ℕ, _+_, _*_, _^_}
-use lib.Dec.{lit<, lit≤}
 use Rattle.exact.specs.Rounding.{up, down}
 use Rattle.exact.specs.Fraction.{_over_, whole, _≤F_, _<F_}
+use Rattle.exact.specs.Laws.Fraction.{closed≤}
 use Rattle.exact.specs.Root.{root}
 use Rattle.formulas.specs.Tables.{conductorMetal}
 use Rattle.formulas.specs.Resistance.{temperatureFactor, resistance}
@@ -32,7 +32,8 @@ use Rattle.rating.specs.Values.{R', Rs, RA, B, zs, zp, ys, G, yp, R, X, 
 use Rattle.rating.specs.Chosen.{Chosen}
 use Rattle.rating.specs.Arrangement.{alternating}
 use Rattle.rating.specs.SlType.{armourLimits, slType}
-use Rattle.rating.specs.Arrangements.{arrangementOf}
+use Rattle.rating.specs.Arrangements.{arrangementOf, own}
+use Rattle.rating.specs.Allowed.{Allowed}
 use Rattle.rating.specs.FieldRefusals.{
   arrangementRefused,
   conductorRefused,
@@ -56,34 +57,23 @@ cable =
     5 ∷ 1 ∷ 5000 ∷ 8500 ∷ 1500 ∷ 124000 ∷ 1450 ∷ 4200 ∷ 1750 ∷ 3600 ∷ 19000 ∷ 350 ∷ 1000 ∷ 4000 ∷ 1 ∷ 1000000 ∷ 6000 ∷ 6 ∷ 250000 ∷ 5500
     ∷ 2500 ∷ 11000 ∷ 350000 ∷ 40000 ∷ 60000 ∷ 450000 ∷ []
 
-pub chosen : Chosen cable
-unfolding piLow piHigh logLow logHigh thirteenTerms series firstPower doubled octaves doublings ln2Low ln2High tera up down
+abbrev pub chosen : Chosen
 chosen =
     record {
       pi = 314159265358 over 10 ^ 11;
       ln2 = 6931471805599 over 10 ^ 13;
       logSpacing = 741937344729 over 10 ^ 12;
       logInsulation = 721318057526 over 10 ^ 12;
-      is-pi =
-          record {
-            at-least = record { left = lit< tt; right = lit< tt; across = lit≤ tt };
-            at-most = record { left = lit< tt; right = lit< tt; across = lit≤ tt };
-          };
-      is-ln2 =
-          record {
-            at-least = record { left = lit< tt; right = lit< tt; across = lit≤ tt };
-            at-most = record { left = lit< tt; right = lit< tt; across = lit≤ tt };
-          };
-      is-logSpacing =
-          record {
-            at-least = record { left = lit< tt; right = lit< tt; across = lit≤ tt };
-            at-most = record { left = lit< tt; right = lit< tt; across = lit≤ tt };
-          };
-      is-logInsulation =
-          record {
-            at-least = record { left = lit< tt; right = lit< tt; across = lit≤ tt };
-            at-most = record { left = lit< tt; right = lit< tt; across = lit≤ tt };
-          };
+    }
+
+pub chosen-allowed : Allowed (own cable) cable chosen
+unfolding piLow piHigh logLow logHigh thirteenTerms series firstPower doubled octaves doublings ln2Low ln2High tera up down
+chosen-allowed =
+    record {
+      pi = record { at-least = closed≤ tt; at-most = closed≤ tt };
+      ln2 = record { at-least = closed≤ tt; at-most = closed≤ tt };
+      logSpacing = λ reactive. record { at-least = closed≤ tt; at-most = closed≤ tt };
+      logInsulation = record { at-least = closed≤ tt; at-most = closed≤ tt };
     }
 
 -- computed from the definitions alone
@@ -104,14 +94,14 @@ unfolding permittedOf permittedRise riseOf
 permitted = refl
 
 under : exactRise cable chosen (whole 457106) ≤F whole 70000000000
-under = rw (← answer .1, ← permitted) (safe cable chosen (answer .0))
+under = rw (← answer .1, ← permitted) (safe cable chosen chosen-allowed (answer .0))
 
 over : whole 70000000000 <F exactRise cable chosen (whole (457106 + 2))
 over =
     subst (λ i. whole 70000000000 <F exactRise cable chosen (whole (i + 2))) (answer .1)
-    (rw (← permitted) (close cable chosen (answer .0)))
+    (rw (← permitted) (close cable chosen chosen-allowed (answer .0)))
 
 over-nearer : whole 70000000000 <F exactRise cable chosen (457106 * 10000001 + 10000000 over 10000000)
 over-nearer =
     subst (λ i. whole 70000000000 <F exactRise cable chosen (i * 10000001 + 10000000 over 10000000)) (answer .1)
-    (rw (← permitted) (nearer cable chosen (answer .0)))
+    (rw (← permitted) (nearer cable chosen chosen-allowed (answer .0)))

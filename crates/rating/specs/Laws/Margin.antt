@@ -17,6 +17,7 @@ use Rattle.formulas.specs.Laws.CloseRise as Law
 use Rattle.rating.specs.Values.{Rs, B, zs, zp, riseOf}
 use Rattle.rating.specs.Chosen.{Chosen}
 use Rattle.rating.specs.Arrangements.{own}
+use Rattle.rating.specs.Allowed.{Allowed}
 use Rattle.rating.specs.FieldRefusals.{fieldRefusal}
 use Rattle.rating.specs.Stage10.{numbersOf, N, E, currentOf}
 use Rattle.rating.specs.Rate.{Answer, refused, rated, loaded, judged, rateOf, rateOf-is}
@@ -80,7 +81,7 @@ fit {x} p =
       eddies = λ tried. ltb-false _ _ (not-both _ _ (p .eddies) tried);
     }
 
-module _ {x : List ℕ} (c : Chosen x) (p : Passed x) where
+module _ {x : List ℕ} {c : Chosen} (allowed : Allowed (own x) x c) (p : Passed x) where
   share : 10 * numbersOf x .dd ≤ 9 * permittedOf x
   unfolding dielectricRefused permittedOf permittedRise
   share = omega (arith, ltb-false (9 * 10 ^ 7 * riseOf x) (10 * numbersOf x .dd) (p .dielectric))
@@ -89,8 +90,8 @@ module _ {x : List ℕ} (c : Chosen x) (p : Passed x) where
   unfolding currentRefused currentOf N currentRise permittedOf permittedRise riseOf
   rated-at =
       record {
-        e-close = E-close (fit p) c;
-        dd-close = dd-close (fit p) c;
+        e-close = E-close (fit p) allowed;
+        dd-close = dd-close (fit p) allowed;
         left = omega (arith, share);
         shares = share;
         warm = omega (arith, rise-range (fit p .sound) .least);
@@ -107,16 +108,16 @@ module _ {x : List ℕ} (c : Chosen x) (p : Passed x) where
       in
       omega arith
 
-module _ (x : List ℕ) (c : Chosen x) (is-rated : rateOf x .number ≡ 0) where
+module _ (x : List ℕ) (c : Chosen) (allowed : Allowed (own x) x c) (is-rated : rateOf x .number ≡ 0) where
   pub safe : exactRise x c (whole (rateOf x .rating)) ≤F whole (permittedOf x)
   unfolding exactRise rated
-  safe = let p = all-passed x is-rated in rw (p .answer) (Law.rise-safe (rated-at c p))
+  safe = let p = all-passed x is-rated in rw (p .answer) (Law.rise-safe (rated-at allowed p))
 
   pub close : whole (permittedOf x) <F exactRise x c (whole (rateOf x .rating + 2))
   unfolding exactRise rated
-  close = let p = all-passed x is-rated in rw (p .answer) (Law.rise-above (rated-at c p))
+  close = let p = all-passed x is-rated in rw (p .answer) (Law.rise-above (rated-at allowed p))
 
   -- at I + 1 + I/10^7 already
   pub nearer : whole (permittedOf x) <F exactRise x c (rateOf x .rating * 10000001 + 10000000 over 10000000)
   unfolding exactRise rated
-  nearer = let p = all-passed x is-rated in rw (p .answer) (Law.rise-above-nearer (rated-at c p) (current-least c p))
+  nearer = let p = all-passed x is-rated in rw (p .answer) (Law.rise-above-nearer (rated-at allowed p) (current-least allowed p))

@@ -17,6 +17,7 @@ use Rattle.fields.specs.Fields as Field
 use Rattle.rating.specs.Values.{Rs, B}
 use Rattle.rating.specs.Chosen.{Chosen, B*}
 use Rattle.rating.specs.OnePoint.{onePoint}
+use Rattle.rating.specs.Allowed.{Allowed}
 use Rattle.rating.specs.Laws.Fit.{Fit}
 use Rattle.rating.specs.Laws.Ranges.{Rs-range, conductors-apart}
 use Rattle.rating.specs.Laws.Arrangement.{Lawful, none-lost, alternating-in-range, alternating-close}
@@ -48,15 +49,15 @@ module _ (j : ℕ) where
         (one-point-apart fit)
 
     S-close :
-        {x : List ℕ} (c : Chosen x) → Fit (onePoint j) x →
+        {x : List ℕ} {c : Chosen} → Allowed (onePoint j) x c → Fit (onePoint j) x →
         Within 40000 (whole 2000)
         (eddyLoss* j (B* x c) (Rs x) (Field.sheathDiameter x) (Field.spacing x))
         (whole (eddyLoss j (B x) (Rs x) (Field.sheathDiameter x) (Field.spacing x)))
     unfolding B* B
-    S-close c fit =
+    S-close allowed fit =
         let fine = fit .sound in
         within-weaken (lit≤ tt) (whole-mono (lit≤ tt))
-        (eddy-close (c .is-pi) (fine .frequency) (Rs-range fine) (eddies-small fit) j≤
+        (eddy-close (allowed .pi) (fine .frequency) (Rs-range fine) (eddies-small fit) j≤
         (omega (arith, fine .sheathDiameter))
         (one-point-apart fit))
 
@@ -66,5 +67,5 @@ module _ (j : ℕ) where
         record {
           spaced = spaced;
           in-range = λ fit. alternating-in-range fit (spaced fit) one (S-most fit) (lit≤ tt);
-          close = λ c fit. alternating-close fit (spaced fit) one c (S-close c fit) none-lost;
+          close = λ allowed fit. alternating-close fit (spaced fit) one allowed (S-close allowed fit) none-lost;
         }

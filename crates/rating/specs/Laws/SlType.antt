@@ -1,4 +1,5 @@
 -- Arrangement 5: what its armour adds to a case's facts, and S and W in their ranges and close to their exact values. Assumes nothing.
+use mathlib.Core.Path.{refl}
 use mathlib.Core.List.{List}
 use Prim.Native.Nat.{ℕ, _*_, _≤_}
 use native.Mathlib.Omega.{arith}
@@ -22,6 +23,7 @@ use Rattle.fields.specs.Fields as Field
 use Rattle.rating.specs.Values.{Rs, RA, B, X, XLow}
 use Rattle.rating.specs.Chosen.{Chosen, B*, X*}
 use Rattle.rating.specs.SlType.{armourLimits, slType}
+use Rattle.rating.specs.Allowed.{Allowed}
 use Rattle.rating.specs.Laws.Sound.{InZ, in-range, in-rangeZ}
 use Rattle.rating.specs.Laws.Fit.{Fit}
 use Rattle.rating.specs.Laws.Ranges.{Rs-range, X-range, XLow-range, conductors-apart}
@@ -78,25 +80,26 @@ module _ {x : List ℕ} (fit : Fit slType x) where
       Law.screenedLoss-most (XLow x) (Rs x)
       (Law.unscreenedLoss-most (B x) (Field.axisDistance x) (RA-range .most) (omega (arith, known .diameter)) (known .distance))
 
-  module _ (c : Chosen x) where
+  module _ {c : Chosen} (allowed : Allowed slType x c) where
     S-close : Within 40000 (whole 2000) (slLoss* (X* x c) (Rs x)) (whole (slLoss (X x) (Rs x)))
+    unfolding slType
     S-close =
         let fine = fit .sound in
         within-weaken (lit≤ tt) (whole-mono (lit≤ tt))
-        (sl-close (X-range fine (known .apart) .least) (Rs-range fine) (X-close c fine (known .apart)))
+        (sl-close (X-range fine (known .apart) .least) (Rs-range fine) (X-close allowed fine refl (known .apart)))
 
     W-close :
         Within 40000 (whole 2000)
         (armourLoss* (RA x) (B* x c) (Field.axisDistance x) (Field.armourDiameter x) (X* x c) (Rs x))
         (whole (armourLoss (RA x) (B x) (Field.axisDistance x) (Field.armourDiameter x) (XLow x) (Rs x)))
-    unfolding B* B
+    unfolding slType B* B
     W-close =
         let fine = fit .sound in
         within-weaken (lit≤ tt) (whole-mono (lit≤ tt))
-        (armour-close (Field.axisDistance x) (c .is-pi) (fine .frequency) RA-range (omega (arith, known .diameter)) (known .distance)
+        (armour-close (Field.axisDistance x) (allowed .pi) (fine .frequency) RA-range (omega (arith, known .diameter)) (known .distance)
         (XLow-range fine (known .apart) .least)
         (Rs-range fine)
-        (XLow-close c fine (known .apart)))
+        (XLow-close allowed fine refl (known .apart)))
 
 pub sl-type-lawful : Lawful slType
 unfolding slType
@@ -105,5 +108,5 @@ sl-type-lawful =
       spaced = spaced;
       in-range =
           λ {x} fit. alternating-in-range fit (spaced fit) three (Law.slLoss-most (X x) (Rs-range (fit .sound) .most)) (W-most fit);
-      close = λ c fit. alternating-close fit (spaced fit) three c (S-close fit c) (W-close fit c);
+      close = λ allowed fit. alternating-close fit (spaced fit) three allowed (S-close fit allowed) (W-close fit allowed);
     }

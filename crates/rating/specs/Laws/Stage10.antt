@@ -10,6 +10,7 @@ use Rattle.formulas.specs.Laws.CloseUnitRise.{unitRise-close}
 use Rattle.fields.specs.Fields as Field
 use Rattle.rating.specs.Chosen.{Chosen}
 use Rattle.rating.specs.Arrangements.{own}
+use Rattle.rating.specs.Allowed.{Allowed}
 use Rattle.rating.specs.Stage10.{numbersOf, E}
 use Rattle.rating.specs.Exact.{numbersOf*, E*}
 use Rattle.rating.specs.Laws.Fit.{Fit}
@@ -34,9 +35,9 @@ module _ {x : List ℕ} (fit : Fit (own x) x) where
             unitRise-most (ν .n .most) (ν .R .most) (ν .S) (ν .W) (fine .t1 .most) (fine .t2 .most) (fine .t3 .most) (fine .t4 .most);
       }
 
-  module _ (c : Chosen x) where
+  module _ {c : Chosen} (allowed : Allowed (own x) x c) where
     numbers-close : Close (numbersOf* x c) (numbersOf x)
-    numbers-close = lawful (Field.arrangement x) .close c fit
+    numbers-close = lawful (Field.arrangement x) .close allowed fit
 
     pub dd-close : Within 2500 (whole 2) (numbersOf* x c .dd) (whole (numbersOf x .dd))
     dd-close = numbers-close .dd

@@ -5,6 +5,7 @@ pub mod Lawful
 pub mod Trailer
 pub mod Record
 pub mod Accept
+pub mod First
 pub mod Built
 pub mod Build
 pub mod ReadBack

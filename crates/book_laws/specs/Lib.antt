@@ -8,6 +8,7 @@ pub mod Start
 pub mod Append
 pub mod Read
 pub mod Accept
+pub mod Refusals
 pub mod Build
 pub mod Built
 pub mod Book

@@ -12,6 +12,8 @@ pub mod SlType
 pub mod Arrangements
 pub mod Stage10
 pub mod Bounds
+pub mod Refused
 pub mod Margin
+pub mod Answers
 pub mod Steps
 pub mod Instances

@@ -11,6 +11,7 @@ pub mod Arrangements
 pub mod Allowed
 pub mod FieldRefusals
 pub mod Stage10
+pub mod Refusals
 pub mod Rate
 pub mod Exact
 pub mod Laws

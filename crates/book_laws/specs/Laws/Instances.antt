@@ -8,7 +8,8 @@ use lib.Dec.{lit<, lit≤}
 use lib.ListN.{replicate, take}
 use Rattle.exact.specs.Fraction.{whole, _≤F_, _<F_}
 use Rattle.rating.specs.Exact.{exactRise, permittedOf}
-use Rattle.rating.specs.Laws.Instances.{cable, chosen, chosen-allowed, answer}
+use Rattle.rating.specs.Laws.Answers.{cable}
+use Rattle.rating.specs.Laws.Instances.{chosen, chosen-allowed, answer}
 use Rattle.book_laws.specs.Bytes.{numberBytes, numberAt, wordsAt, wordsBytes, stands, below}
 use Rattle.book_laws.specs.Layout.{rbk1}
 use Rattle.book_laws.specs.Format.{fieldsOf, trailerBytes}

@@ -12,6 +12,7 @@ pub mod SlType
 pub mod Arrangements
 pub mod Stage10
 pub mod Bounds
+pub mod First
 pub mod Refused
 pub mod Margin
 pub mod Answers

@@ -12,6 +12,8 @@ pub mod TableRange
 pub mod LogEndsGap
 pub mod LogEndsSum
 pub mod LogEndsHold
+pub mod LogEndsOrder
+pub mod LogPromised
 pub mod Between
 pub mod OverT
 pub mod CloseReactance

@@ -7,12 +7,12 @@ pub mod Temperature
 pub mod Octaves
 pub mod Current
 pub mod Ranges
+pub mod LogEndsOrder
 pub mod LogRange
 pub mod TableRange
 pub mod LogEndsGap
 pub mod LogEndsSum
 pub mod LogEndsHold
-pub mod LogEndsOrder
 pub mod LogPromised
 pub mod Between
 pub mod OverT

@@ -8,10 +8,8 @@ use lib.Dec.{lit<, lit≤}
 use Rattle.exact.specs.Rounding.{up, down}
 use Rattle.exact.specs.Laws.Rounding.{down-le-up, up-mono}
 use Rattle.exact.specs.Fraction.{_over_}
-use Rattle.exact.specs.Laws.Fraction.{≤F-refl}
 use Rattle.formulas.specs.Constants.{tera, piLow, piHigh, ln2Low, ln2High, Between, IsPi, IsLn2}
 use Rattle.formulas.specs.Logarithm.{octaves, doubled, series, firstPower, termCount, thirteenTerms, logLow, logHigh, IsLog}
-use Rattle.formulas.specs.Laws.LogRange.{tera>0}
 
 down-at-most-up : (a c b : ℕ) → a ≤ c → down a b ≤ up c b
 down-at-most-up a c zero a≤c = unfold down in omega (arith, div-zero a)
@@ -54,20 +52,22 @@ log-ends-ordered a b =
       mul-le-mul-right (octaves a b) ln2-ordered,
     )
 
--- Where the ends are in order, the lower one itself lies between them.
-lower-end : (low high : ℕ) {den : ℕ} → 0 < den → low ≤ high → Between low high den (low over den)
-lower-end low high {den} den>0 low≤ =
+-- a whole number between two others, over their denominator
+between-over : {low m high den : ℕ} → 0 < den → low ≤ m → m ≤ high → Between low high den (m over den)
+between-over {den = den} den>0 low≤ ≤high =
     record {
-      at-least = ≤F-refl (low over den) den>0;
-      at-most = record { left = den>0; right = den>0; across = mul-le-mul-right den low≤ };
+      at-least = record { left = den>0; right = den>0; across = mul-le-mul-right den low≤ };
+      at-most = record { left = den>0; right = den>0; across = mul-le-mul-right den ≤high };
     }
 
 pub pi-exists : IsPi (piLow over 10 ^ 10)
 unfolding piLow piHigh
-pi-exists = lower-end _ _ (lit< tt) (lit≤ tt)
+pi-exists = between-over (lit< tt) (lit≤ tt) (lit≤ tt)
 
 pub ln2-exists : IsLn2 (ln2Low over tera)
-ln2-exists = lower-end _ _ tera>0 ln2-ordered
+unfolding ln2Low ln2High tera
+ln2-exists = between-over (lit< tt) (lit≤ tt) (lit≤ tt)
 
 pub log-exists : (a b : ℕ) → IsLog a b (logLow a b over tera)
-log-exists a b = lower-end (logLow a b) (logHigh a b) tera>0 (log-ends-ordered a b)
+unfolding tera
+log-exists a b = between-over (lit< tt) (omega arith) (omega (arith, log-ends-ordered a b))

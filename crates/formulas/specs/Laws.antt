@@ -7,6 +7,7 @@ pub mod Temperature
 pub mod Octaves
 pub mod Current
 pub mod Ranges
+pub mod Between
 pub mod LogEndsOrder
 pub mod LogRange
 pub mod TableRange
@@ -14,7 +15,6 @@ pub mod LogEndsGap
 pub mod LogEndsSum
 pub mod LogEndsHold
 pub mod LogPromised
-pub mod Between
 pub mod OverT
 pub mod CloseReactance
 pub mod CloseRise

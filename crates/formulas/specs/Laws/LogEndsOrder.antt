@@ -1,15 +1,16 @@
 -- The lower end of stage 5 is at most the upper one, whatever a and b are: rounded down, no power, no term and no ln 2 is above the
 -- one rounded up. The ends of pi and of ln 2 are in order too, so there is a fraction to choose for each in the exact rise, and what
 -- is said of every choice is said of one. Assumes nothing.
-use Prim.Native.Nat.{ℕ, zero, suc, _+_, _-_, _*_, _^_, _≤_, _<_}
+use Prim.Native.Nat.{ℕ, zero, suc, _+_, _-_, _*_, _^_, _≤_}
 use native.Mathlib.Nat.{div-zero, le-trans, mul-le-mul, mul-le-mul-left, mul-le-mul-right}
 use native.Mathlib.Omega.{arith}
 use lib.Dec.{lit<, lit≤}
 use Rattle.exact.specs.Rounding.{up, down}
 use Rattle.exact.specs.Laws.Rounding.{down-le-up, up-mono}
 use Rattle.exact.specs.Fraction.{_over_}
-use Rattle.formulas.specs.Constants.{tera, piLow, piHigh, ln2Low, ln2High, Between, IsPi, IsLn2}
+use Rattle.formulas.specs.Constants.{tera, piLow, piHigh, ln2Low, ln2High, IsPi, IsLn2}
 use Rattle.formulas.specs.Logarithm.{octaves, doubled, series, firstPower, termCount, thirteenTerms, logLow, logHigh, IsLog}
+use Rattle.formulas.specs.Laws.Between.{between-over}
 
 down-at-most-up : (a c b : ℕ) → a ≤ c → down a b ≤ up c b
 down-at-most-up a c zero a≤c = unfold down in omega (arith, div-zero a)
@@ -51,14 +52,6 @@ log-ends-ordered a b =
       thirteenTerms-ordered (firstPower down a b) (firstPower up a b) (firstPower-ordered a b),
       mul-le-mul-right (octaves a b) ln2-ordered,
     )
-
--- a whole number between two others, over their denominator
-between-over : {low m high den : ℕ} → 0 < den → low ≤ m → m ≤ high → Between low high den (m over den)
-between-over {den = den} den>0 low≤ ≤high =
-    record {
-      at-least = record { left = den>0; right = den>0; across = mul-le-mul-right den low≤ };
-      at-most = record { left = den>0; right = den>0; across = mul-le-mul-right den ≤high };
-    }
 
 pub pi-exists : IsPi (piLow over 10 ^ 10)
 unfolding piLow piHigh

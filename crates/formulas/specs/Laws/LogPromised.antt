@@ -20,10 +20,11 @@ pub record LogPromised (a b : ℕ) : Type 0 where
   -- the two ends differ by at most 100
   pub ends-ordered : logLow a b ≤ logHigh a b
   pub ends-near : logHigh a b ≤ logLow a b + 100
-  -- each end has k times its ln 2 end in it, which can so be taken off
+  -- k times its ln 2 end can be taken off either end: what is left is not below 0
   pub upper-has-octaves : ln2High * octaves a b ≤ logHigh a b
   pub lower-has-octaves : ln2Low * octaves a b ≤ logLow a b
-  -- T times the sum of the first n exact terms of 2 artanh ζ, and that sum with the rest added
+  -- then for every n, T times the sum of the first n exact terms of 2 artanh ζ is at most the upper end, and T times that sum with
+  -- 2ζ^(2n + 1)/((2n + 1)(1 - ζ²)) added is at least the lower end
   pub upper-holds : (n : ℕ) → whole tera *F artanhSum (zeta a b) n ≤F whole (logHigh a b - ln2High * octaves a b)
   pub lower-holds :
       (n : ℕ) → whole (logLow a b - ln2Low * octaves a b) ≤F whole tera *F (artanhSum (zeta a b) n +F artanhRest (zeta a b) n)
@@ -50,7 +51,8 @@ spacing-promised {s} {d} d≥ d≤s s≤ = log-promised (2 * s) d (omega arith) 
 pub insulation-promised : {di ds : ℕ} → 100 ≤ ds → 105 * ds ≤ 100 * di → di ≤ 30000 → LogPromised di ds
 insulation-promised {di} {ds} ds≥ ds≤ di≤ = log-promised di ds (omega arith) (omega arith) (omega arith)
 
--- those of the worked case
+-- Those of the worked case.
+
 worked-spacing : LogPromised (2 * 4200) 4000
 worked-spacing = spacing-promised {s = 4200} (lit≤ tt) (lit≤ tt) (lit≤ tt)
 

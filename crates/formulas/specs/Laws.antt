@@ -7,12 +7,14 @@ pub mod Temperature
 pub mod Octaves
 pub mod Current
 pub mod Ranges
+pub mod Between
+pub mod LogEndsOrder
 pub mod LogRange
 pub mod TableRange
 pub mod LogEndsGap
 pub mod LogEndsSum
 pub mod LogEndsHold
-pub mod Between
+pub mod LogPromised
 pub mod OverT
 pub mod CloseReactance
 pub mod CloseRise

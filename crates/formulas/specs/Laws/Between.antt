@@ -10,6 +10,19 @@ use Rattle.exact.specs.Laws.Fraction.{≤F-refl, ≤F-trans, +F-mono, *F-mono}
 use Rattle.exact.specs.Error.{parts, Within}
 use Rattle.formulas.specs.Constants.{Between}
 
+over-mono : {m n den : ℕ} → 0 < den → m ≤ n → m over den ≤F n over den
+over-mono {den = den} den>0 m≤n = record { left = den>0; right = den>0; across = mul-le-mul-right den m≤n }
+
+-- a whole number between two others, over their denominator
+pub between-over : {low m high den : ℕ} → 0 < den → low ≤ m → m ≤ high → Between low high den (m over den)
+between-over den>0 low≤ ≤high = record { at-least = over-mono den>0 low≤; at-most = over-mono den>0 ≤high }
+
+pub between-widen :
+    {low low′ high high′ den : ℕ} {x : Fraction} → low′ ≤ low → high ≤ high′ → Between low high den x → Between low′ high′ den x
+between-widen low≤ high≤ p =
+    let den>0 = p .at-least .left in
+    record { at-least = ≤F-trans (over-mono den>0 low≤) (p .at-least); at-most = ≤F-trans (p .at-most) (over-mono den>0 high≤) }
+
 module _ (r low high den : ℕ) (den>0 : 0 < den) where
   -- the upper end is at most the lower one and r parts of m
   ends : (m : ℕ) → high * trillion ≤ low * trillion + r * m → high over den ≤F (low over den) +F (parts r *F (m over den) +F whole 0)

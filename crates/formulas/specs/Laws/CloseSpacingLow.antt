@@ -1,27 +1,26 @@
 -- X- against the exact X: it is not above it, and below it by at most 200 parts in 10^12 and 1. The armour's screening takes X-, so
 -- that W is not too small. Assumes nothing.
-use mathlib.Core.Bool.{Bool, true, false, cond}
 use Prim.Native.Nat.{ℕ, _+_, _*_, _^_, _≤_, _<_}
-use native.Mathlib.Nat.{mul-pos, mul-le-mul, le-refl, le-trans, le-add-right}
+use native.Mathlib.Nat.{mul-le-mul, le-trans, le-add-right}
 use native.Mathlib.Omega.{arith}
-use lib.Dec.{eqb, lit<, lit≤}
+use lib.Dec.{lit<, lit≤}
 use Rattle.exact.specs.Rounding.{up, down}
 use Rattle.exact.specs.Laws.Rounding.{down-most}
-use Rattle.exact.specs.Fraction.{Fraction, _over_, whole, _+F_, _*F_, reciprocal, _/F_, _≤F_}
-use Rattle.exact.specs.Laws.Fraction.{closed≤, ≃F-refl, ≤F-trans}
+use Rattle.exact.specs.Fraction.{Fraction, _over_, whole, _+F_, _*F_, _≤F_}
+use Rattle.exact.specs.Laws.Fraction.{closed≤, ≃F-refl}
 use Rattle.exact.specs.Error.{parts, Within}
-use Rattle.exact.specs.Laws.Error.{within-weaken, within-sum, within-trans, within-scale, within-same, within-relative-product}
+use Rattle.exact.specs.Laws.Error.{within-weaken, within-trans, within-scale, within-same, within-relative-product}
 use Rattle.exact.specs.Laws.RoundingError.{within-round-down}
-use Rattle.formulas.specs.Constants.{tera, piLow, piHigh, ln2Low, ln2High, ln2ThirdLow, Between, IsPi, IsLn2}
+use Rattle.formulas.specs.Constants.{tera, piLow, piHigh, ln2Low, ln2High, ln2ThirdLow, IsPi, IsLn2}
 use Rattle.formulas.specs.Reactance.{reactanceLow, reactance*}
 use Rattle.formulas.specs.Logarithm.{logLow, logHigh, IsLog}
 use Rattle.formulas.specs.Spacing.{spacingLogLow, sheathReactanceLow, spacingLog*, sheathReactance*}
 use Rattle.formulas.specs.Laws.LogEndsGap.{log-gap}
 use Rattle.formulas.specs.Laws.Ranges.{In}
-use Rattle.formulas.specs.Laws.CloseSpacing.{octaves-least, zero-and-zero}
+use Rattle.formulas.specs.Laws.CloseSpacing.{octaves-least, zero-and-zero, spacingLog-within, spacingLog-of-ends}
 use Rattle.formulas.specs.Laws.LogRange.{tera>0}
 use Rattle.formulas.specs.Laws.Bounds.{leastSheathReactanceLow}
-use Rattle.formulas.specs.Laws.Between.{between-above}
+use Rattle.formulas.specs.Laws.Between.{between-above, between-widen}
 
 reactanceLow-close : {π : Fraction} {f : ℕ} → IsPi π → In 1000 6500 f → Within 40 (whole 0) (whole (reactanceLow f)) (reactance* π f)
 unfolding reactanceLow reactance* piLow piHigh _*F_
@@ -46,38 +45,19 @@ log-above {s} {d} d>0 d≤s <d p =
     (omega (arith, logLow-octave (2 * s) d d>0 (omega arith), log-gap (2 * s) d d>0 (omega arith) <d))
     p
 
-third-above : {ln2 : Fraction} → IsLn2 ln2 → Within 145 (whole 0) (ln2ThirdLow over tera) (ln2 /F whole 3)
-unfolding ln2Low ln2High ln2ThirdLow reciprocal _*F_
-third-above {ln2} p =
-    let wide : Between 693147180558 693147180560 tera ln2 =
-    record {
-      at-least = ≤F-trans (record { left = tera>0; right = tera>0; across = omega arith }) (p .at-least);
-      at-most = p .at-most;
-    }
-    in
-    let scaled = within-scale (1 over 3) (lit< tt) (between-above 145 693147180558 693147180560 tera tera>0 (lit≤ tt) wide) in
-    within-same
-    (record { left = scaled .below .left; right = tera>0; across = omega arith })
-    (record { left = scaled .below .right; right = mul-pos (p .at-most .left) (lit< tt); across = omega arith })
-    scaled
-
-with-third :
-    (is-two : Bool) {low third : ℕ} {log x : Fraction} → Within 145 (whole 0) (low over tera) log →
-    Within 145 (whole 0) (third over tera) x →
-    Within 145 (whole 0) (low + cond is-two third 0 over tera) (cond is-two (log +F x) log)
-unfolding _+F_
-with-third true p q =
-    let both = within-weaken (le-refl 145) zero-and-zero (within-sum p q) in
-    within-same (record { left = both .below .left; right = tera>0; across = omega arith }) (≃F-refl _ (both .below .right)) both
-with-third false p q =
-    within-same (record { left = tera>0; right = tera>0; across = omega arith }) (≃F-refl _ (p .below .right)) p
+-- the end of a third of ln 2 is rounded down: three of it are 1 less than the end of ln 2
+thrice-third-above : {ln2 : Fraction} → IsLn2 ln2 → Within 145 (whole 0) (3 * ln2ThirdLow over tera) ln2
+unfolding ln2Low ln2High ln2ThirdLow
+thrice-third-above p =
+    between-above 145 693147180558 693147180560 tera tera>0 (lit≤ tt) (between-widen (lit≤ tt) (lit≤ tt) p)
 
 spacingLogLow-close :
     (arrangement : ℕ) {s d : ℕ} {log ln2 : Fraction} → IsLn2 ln2 → IsLog (2 * s) d log → 0 < d → d ≤ s → 2 * s < 32768 * d →
     Within 145 (whole 0) (spacingLogLow arrangement s d over tera) (spacingLog* arrangement log ln2)
-unfolding spacingLog* spacingLogLow
-spacingLogLow-close arrangement two p d>0 d≤s <d =
-    with-third (eqb arrangement 2) (log-above d>0 d≤s <d p) (third-above two)
+unfolding spacingLogLow
+spacingLogLow-close arrangement {s} {d} two p d>0 d≤s <d =
+    let at-end = spacingLog-within arrangement (log-above d>0 d≤s <d p) (thrice-third-above two) in
+    within-same (spacingLog-of-ends arrangement (logLow (2 * s) d) ln2ThirdLow) (≃F-refl _ (at-end .below .right)) at-end
 
 spacingLogLow-least : (arrangement : ℕ) {s d : ℕ} → 0 < d → d ≤ s → 693147180559 ≤ spacingLogLow arrangement s d
 unfolding spacingLogLow

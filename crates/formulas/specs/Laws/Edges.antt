@@ -1,5 +1,6 @@
--- The starred values at the edges of docs/CLAIMS.md, as one theorem. Each is computed from the definition or the table that the
--- rating uses. Assumes nothing.
+-- The starred values at the edges of docs/CLAIMS.md, as one theorem, and as another edges that the stars leave out: refusal 8 where
+-- kp decides, refusal 11, and the ends of a logarithm whose powers are rounded. Each is computed from the definition or the table
+-- that the rating uses. Assumes nothing.
 use mathlib.Core.Path.{_≡_, refl}
 use mathlib.Core.Bool.{Bool, true, false}
 use Prim.Native.Nat.{ℕ, _*_}
@@ -15,7 +16,7 @@ use Rattle.formulas.specs.Proximity.{spacingRatio}
 use Rattle.formulas.specs.Logarithm.{octaves, doubled, firstPower, thirteenTerms, logLow, logHigh}
 use Rattle.formulas.specs.Sheath.{bondRatio, bondRatioSquared, circulatingLoss}
 use Rattle.formulas.specs.Rating.{rating}
-use Rattle.formulas.specs.Refusals.{skinRefused, eddyRefused, dielectricRefused}
+use Rattle.formulas.specs.Refusals.{skinRefused, eddyRefused, dielectricRefused, currentRefused}
 
 -- refusal 8 of a conductor code at a frequency and an R'
 abbrev skinRefusedAt : ℕ → ℕ → ℕ → Bool
@@ -65,4 +66,40 @@ starred =
       gets-10 = refl;
       I = refl;
       I-less = refl;
+    }
+
+pub record Unstarred : Type 0 where
+  -- refusal 8: either z at the limit passes, either above it is refused
+  pub both-z-pass-8 : skinRefused 7840000000000 7840000000000 ≡ false
+  pub zs-gets-8 : skinRefused 7840000000001 7840000000000 ≡ true
+  pub zp-gets-8 : skinRefused 7840000000000 7840000000001 ≡ true
+  -- of four segments of aluminium, whose kp is above ks, kp's z decides
+  pub kp-passes-8 : skinRefusedAt 5000 6 59305575604 ≡ false
+  pub kp-gets-8 : skinRefusedAt 5000 6 59305575603 ≡ true
+  -- refusal 11: a rating of 5000000 passes, 1 mA more is refused
+  pub passes-11 : currentRefused 5000000 ≡ false
+  pub gets-11 : currentRefused 5000001 ≡ true
+  -- with E at 10^11, the largest N whose rating passes, and the next N
+  pub rating-passes-11 : currentRefused (rating 250000100000 100000000000) ≡ false
+  pub rating-gets-11 : currentRefused (rating 250000100001 100000000000) ≡ true
+  -- the ends for 3/2: the first powers are exact, the later ones and most terms are rounded
+  pub log3over2-low : logLow 3 2 ≡ 405465108105
+  pub log3over2-high : logHigh 3 2 ≡ 405465108117
+
+pub unstarred : Unstarred
+unfolding up down root tera piHigh ln2Low ln2High skinReactance skinRatio octaves doubled firstPower thirteenTerms logLow logHigh
+    rating skinRefused currentRefused
+unstarred =
+    record {
+      both-z-pass-8 = refl;
+      zs-gets-8 = refl;
+      zp-gets-8 = refl;
+      kp-passes-8 = refl;
+      kp-gets-8 = refl;
+      passes-11 = refl;
+      gets-11 = refl;
+      rating-passes-11 = refl;
+      rating-gets-11 = refl;
+      log3over2-low = refl;
+      log3over2-high = refl;
     }

@@ -12,6 +12,7 @@ use Rattle.exact.specs.Trillion.{trillion}
 use Rattle.formulas.specs.Constants.{tera, ln2Low, ln2High}
 use Rattle.formulas.specs.Logarithm.{octaves, doubled, series, firstPower, termCount, thirteenTerms, logLow, logHigh}
 use Rattle.formulas.specs.Laws.Octaves.{Largest, octaves-largest}
+use Rattle.formulas.specs.Laws.LogEndsOrder.{log-ends-ordered}
 use Rattle.formulas.specs.Laws.Bounds.{mostPower, mostTerms, mostLog, leastInsulationLog}
 
 pub tera>0 : 0 < tera
@@ -78,8 +79,7 @@ unfolding logHigh ln2High
 logHigh-most a b b>0 b≤a a< = omega (arith, terms-most up-bounded a b b>0 b≤a, octaves-most a b b>0 b≤a a<)
 
 pub logLow-most : (a b : ℕ) → 0 < b → b ≤ a → a < 32768 * b → logLow a b ≤ mostLog
-unfolding logLow ln2Low
-logLow-most a b b>0 b≤a a< = omega (arith, terms-most down-bounded a b b>0 b≤a, octaves-most a b b>0 b≤a a<)
+logLow-most a b b>0 b≤a a< = le-trans (log-ends-ordered a b) (logHigh-most a b b>0 b≤a a<)
 
 thirteenTerms-least : (p : ℕ) → 2 * p ≤ thirteenTerms down p
 unfolding thirteenTerms series
@@ -96,7 +96,6 @@ pub logLow-least : (a b : ℕ) → 0 < b → 21 * b ≤ 20 * a → leastInsulati
 unfolding logLow ln2Low
 logLow-least a b b>0 h = go (octaves a b) refl
   where
-    go : (k : ℕ) → octaves a b ≡ k → leastInsulationLog ≤ thirteenTerms down (firstPower down a b) + 693147180559 * octaves a b
-    go zero none =
-        omega (arith, firstPower-least a b b>0 h none, thirteenTerms-least (firstPower down a b))
+    go : (k : ℕ) → octaves a b ≡ k → leastInsulationLog ≤ logLow a b
+    go zero none = omega (arith, firstPower-least a b b>0 h none, thirteenTerms-least (firstPower down a b))
     go (suc k) some = omega arith

@@ -1,10 +1,11 @@
 -- What follows from the definitions of a book: writing and reading undo each other, what was appended reads back, an accepted book builds
--- again to the same bytes, and demand 3 for each rated record of one. Assumes nothing.
+-- again to the same bytes, demand 3 for each rated record of one, and what a refusal leaves. Assumes nothing.
 pub mod Bytes
 pub mod Lawful
 pub mod Trailer
 pub mod Record
 pub mod Accept
+pub mod Refused
 pub mod Built
 pub mod Build
 pub mod ReadBack

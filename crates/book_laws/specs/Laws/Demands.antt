@@ -1,5 +1,5 @@
 -- Demand 2 for books of RBK1: what was built from cases reads back and is accepted, a book that fits is not refused, and an accepted book
--- builds again to the same bytes. Each is the law of any lawful layout. Assumes nothing.
+-- builds again to the same bytes. And what a refusal leaves. Each is the law of any lawful layout. Assumes nothing.
 use mathlib.Core.Bool.{true}
 use mathlib.Core.List.{List, _++_}
 use mathlib.Core.Path.{_≡_}
@@ -8,8 +8,29 @@ use lib.ListN.{length, take, drop}
 use Rattle.book_laws.specs.Bytes.{below}
 use Rattle.book_laws.specs.Record.{casesAt}
 use Rattle.book_laws.specs.Build.{allCases}
-use Rattle.book_laws.specs.Book.{layoutOf, newLayout, describe, acceptOf, build, built, Fits, Kept}
+use Rattle.book_laws.specs.Book.{
+  layoutOf,
+  newLayout,
+  describe,
+  startOf,
+  appendOf,
+  readOf,
+  acceptOf,
+  build,
+  built,
+  Fits,
+  Kept,
+}
 use Rattle.book_laws.specs.Laws.Lawful.{rbk1-lawful}
+use Rattle.book_laws.specs.Laws.Refused.{
+  Unwritten,
+  Unread,
+  Unaccepted,
+  startIn-refused,
+  appendIn-refused,
+  readIn-refused,
+  acceptIn-refused,
+}
 use Rattle.book_laws.specs.Laws.Build.{buildIn-fits}
 use Rattle.book_laws.specs.Laws.ReadBack.{keptIn}
 use Rattle.book_laws.specs.Laws.Rebuild.{rebuiltIn, rebuiltIn-whole}
@@ -37,3 +58,18 @@ module _ (b : List ℕ) (used k : ℕ) (bytes : below 256 b ≡ true) (none : ac
       (c : List ℕ) → length c ≡ used → take (d .first) c ≡ take (d .first) b →
       build c (d .first) (casesAt (layoutOf b used) b (d .first) (d .count)) ≡ record { number = 0; used = used; bytes = take used b }
   rebuilt-whole = rebuiltIn-whole rbk1-lawful b used k bytes none
+
+-- What a refusal leaves: the number, zeros, and every byte as it was. A record of RBK1 has 28 fields.
+
+module _ (b : List ℕ) where
+  pub start-refused : (note : ℕ) → (startOf b note .number ≡ 0 → ⊥) → startOf b note ≡ record { number = 24; used = 0; bytes = b }
+  start-refused = startIn-refused newLayout b
+
+  pub append-refused : (used : ℕ) (x : List ℕ) → (appendOf b used x .number ≡ 0 → ⊥) → Unwritten b (appendOf b used x)
+  append-refused = appendIn-refused newLayout b
+
+  pub read-refused : (used i : ℕ) → (readOf b used i .number ≡ 0 → ⊥) → Unread 28 (readOf b used i)
+  read-refused used = readIn-refused (layoutOf b used) b used
+
+  pub accept-refused : (used k : ℕ) → (acceptOf b used k .number ≡ 0 → ⊥) → Unaccepted k (acceptOf b used k)
+  accept-refused used = acceptIn-refused (layoutOf b used) b used

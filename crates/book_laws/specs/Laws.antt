@@ -1,5 +1,5 @@
 -- What follows from the definitions of a book: writing and reading undo each other, what was appended reads back, an accepted book builds
--- again to the same bytes, demand 3 for each rated record of one, and what a refusal leaves. Assumes nothing.
+-- again to the same bytes, demand 3 for each rated record of one, what a refusal leaves, and the bytes of docs/BOOK.md. Assumes nothing.
 pub mod Bytes
 pub mod Lawful
 pub mod Trailer
@@ -12,4 +12,5 @@ pub mod ReadBack
 pub mod Rebuild
 pub mod Margin
 pub mod Demands
+pub mod Literal
 pub mod Instances

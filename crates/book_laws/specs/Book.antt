@@ -7,7 +7,7 @@ use Rattle.book_laws.specs.Record.{placeFrom}
 use Rattle.book_laws.specs.Start.{Written, startIn}
 use Rattle.book_laws.specs.Append.{appendIn}
 use Rattle.book_laws.specs.Read.{Fields, readIn}
-use Rattle.book_laws.specs.Accept.{Acceptance, acceptIn, DiffersIn}
+use Rattle.book_laws.specs.Accept.{Acceptance, acceptIn, AcceptedIn, DiffersIn}
 use Rattle.book_laws.specs.Build.{buildIn}
 use Rattle.book_laws.specs.Built.{builtIn, FitsIn, KeptIn}
 
@@ -33,6 +33,9 @@ readOf b used index = readIn (layoutOf b used) b used index
 -- k is the record that 23 names
 abbrev pub acceptOf : List ℕ → ℕ → ℕ → Acceptance
 acceptOf b used k = acceptIn (layoutOf b used) b used k
+
+abbrev pub Accepted : List ℕ → ℕ → Type 0
+Accepted b used = AcceptedIn (layoutOf b used) b used
 
 abbrev pub Differs : List ℕ → ℕ → ℕ → Type 0
 Differs b used k = DiffersIn (layoutOf b used) b used k

@@ -9,6 +9,7 @@ pub mod Refused
 pub mod Built
 pub mod Build
 pub mod ReadBack
+pub mod Cases
 pub mod Rebuild
 pub mod Margin
 pub mod Demands

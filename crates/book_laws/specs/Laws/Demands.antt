@@ -16,12 +16,14 @@ use Rattle.book_laws.specs.Book.{
   appendOf,
   readOf,
   acceptOf,
+  Accepted,
   build,
   built,
   Fits,
   Kept,
 }
 use Rattle.book_laws.specs.Laws.Lawful.{rbk1-lawful}
+use Rattle.book_laws.specs.Laws.Accept.{acceptedIn, acceptsIn}
 use Rattle.book_laws.specs.Laws.Refused.{
   Unwritten,
   Unread,
@@ -43,21 +45,32 @@ module _ (b : List ℕ) (note : ℕ) (xs : List (List ℕ)) (cases : allCases ne
   pub kept : build b note xs .number ≡ 0 → Kept b note xs (build b note xs)
   kept = keptIn rbk1-lawful b note xs cases
 
-module _ (b : List ℕ) (used k : ℕ) (bytes : below 256 b ≡ true) (none : acceptOf b used k .number ≡ 0) where
+-- Accept accepts the accepted books, whichever record 23 would name.
+
+module _ (b : List ℕ) (used k : ℕ) where
+  pub accepted : acceptOf b used k .number ≡ 0 → Accepted b used
+  accepted = acceptedIn (layoutOf b used) b used k
+
+  pub accepts :
+      let d = describe b used in
+      Accepted b used → acceptOf b used k ≡ record { number = 0; count = d .count; note = d .first; named = 0 }
+  accepts = acceptsIn (layoutOf b used) b used k
+
+module _ (b : List ℕ) (used : ℕ) (bytes : below 256 b ≡ true) (fine : Accepted b used) where
   -- in a buffer that is long enough and has the note at its front; what stood behind stays
   pub rebuilt :
       let d = describe b used in
       (c : List ℕ) → used ≤ length c → take (d .first) c ≡ take (d .first) b →
       build c (d .first) (casesAt (layoutOf b used) b (d .first) (d .count))
       ≡ record { number = 0; used = used; bytes = take used b ++ drop used c }
-  rebuilt = rebuiltIn rbk1-lawful b used k bytes none
+  rebuilt = rebuiltIn rbk1-lawful b used bytes fine
 
   -- in a buffer as long as the book
   pub rebuilt-whole :
       let d = describe b used in
       (c : List ℕ) → length c ≡ used → take (d .first) c ≡ take (d .first) b →
       build c (d .first) (casesAt (layoutOf b used) b (d .first) (d .count)) ≡ record { number = 0; used = used; bytes = take used b }
-  rebuilt-whole = rebuiltIn-whole rbk1-lawful b used k bytes none
+  rebuilt-whole = rebuiltIn-whole rbk1-lawful b used bytes fine
 
 -- What a refusal leaves: the number, zeros, and every byte as it was. A record of RBK1 has 28 fields.
 

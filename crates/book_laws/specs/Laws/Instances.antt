@@ -17,12 +17,13 @@ use Rattle.book_laws.specs.Trailer.{wrongTrailer, describeAt, describeIn
 use Rattle.book_laws.specs.Record.{casesAt}
 use Rattle.book_laws.specs.Build.{allCases}
 use Rattle.book_laws.specs.Built.{builtIn}
-use Rattle.book_laws.specs.Book.{describe, startOf, appendOf, readOf, acceptOf, build, Kept}
+use Rattle.book_laws.specs.Book.{describe, startOf, appendOf, readOf, acceptOf, Accepted, build, Kept}
 use Rattle.book_laws.specs.Laws.Refused.{Unwritten, Unread, Unaccepted}
 use Rattle.book_laws.specs.Laws.Margin.{safe, close}
 use Rattle.book_laws.specs.Laws.Demands.{
   build-fits,
   kept,
+  accepted,
   rebuilt-whole,
   start-refused,
   append-refused,
@@ -31,6 +32,9 @@ use Rattle.book_laws.specs.Laws.Demands.{
 }
 use Rattle.book_laws.specs.Laws.Literal.{smallBook, freshBook, literal, edges}
 
+fine : Accepted smallBook 130
+fine = accepted smallBook 130 0 (ap (λ a. a .number) (literal .accepts 0))
+
 -- Built again in a buffer as long, with the note at its front.
 
 built-again :
@@ -38,17 +42,17 @@ built-again :
     build (79 ∷ 75 ∷ replicate 128 0) (d .first) (casesAt rbk1 smallBook (d .first) (d .count))
     ≡ record { number = 0; used = 130; bytes = take 130 smallBook }
 unfolding describeIn describeAt wrongTrailer stands numberAt below
-built-again = rebuilt-whole smallBook 130 0 refl (ap (λ a. a .number) (literal .accepts 0)) (79 ∷ 75 ∷ replicate 128 0) refl refl
+built-again = rebuilt-whole smallBook 130 refl fine (79 ∷ 75 ∷ replicate 128 0) refl refl
 
 -- Demand 3 of the record.
 
 under : exactRise cable chosen (whole 457106) ≤F whole (permittedOf cable)
 unfolding describeIn describeAt wrongTrailer stands wordsAt numberAt
-under = safe smallBook 130 0 (ap (λ a. a .number) (literal .accepts 0)) 0 (lit< tt) refl chosen
+under = safe smallBook 130 fine 0 (lit< tt) refl chosen
 
 over : whole (permittedOf cable) <F exactRise cable chosen (whole 457108)
 unfolding describeIn describeAt wrongTrailer stands wordsAt numberAt
-over = close smallBook 130 0 (ap (λ a. a .number) (literal .accepts 0)) 0 (lit< tt) refl chosen
+over = close smallBook 130 fine 0 (lit< tt) refl chosen
 
 -- The cable and the case of 26 zeros, appended after a note of two bytes.
 

@@ -10,5 +10,6 @@ pub mod Read
 pub mod Accept
 pub mod Build
 pub mod Built
+pub mod Appended
 pub mod Book
 pub mod Laws

@@ -1,13 +1,17 @@
 -- Demand 2 for books of RBK1: what was built from cases reads back and is accepted, a book that fits is not refused, and an accepted book
--- builds again to the same bytes. And what a refusal leaves. Each is the law of any lawful layout. Assumes nothing.
+-- builds again to the same bytes, from the cases that `read` answers, and can be appended to. And what a refusal leaves. Each is the law
+-- of any lawful layout. Assumes nothing.
 use mathlib.Core.Bool.{true}
-use mathlib.Core.List.{List, _++_}
+use mathlib.Core.List.{List, [], _∷_, _++_}
 use mathlib.Core.Path.{_≡_}
-use Prim.Native.Nat.{ℕ, _≤_}
-use lib.ListN.{length, take, drop}
+use Prim.Native.Nat.{ℕ, _≤_, _<_}
+use lib.ListN.{length, getD, take, drop}
+use Rattle.rating.specs.Rate.{rateOf}
 use Rattle.book_laws.specs.Bytes.{below}
+use Rattle.book_laws.specs.Format.{fieldsOf}
 use Rattle.book_laws.specs.Record.{casesAt}
-use Rattle.book_laws.specs.Build.{allCases}
+use Rattle.book_laws.specs.Start.{Written}
+use Rattle.book_laws.specs.Build.{allCases, appendAll}
 use Rattle.book_laws.specs.Book.{
   layoutOf,
   newLayout,
@@ -17,6 +21,7 @@ use Rattle.book_laws.specs.Book.{
   readOf,
   acceptOf,
   Accepted,
+  Appended,
   build,
   built,
   Fits,
@@ -35,7 +40,9 @@ use Rattle.book_laws.specs.Laws.Refused.{
 }
 use Rattle.book_laws.specs.Laws.Build.{buildIn-fits}
 use Rattle.book_laws.specs.Laws.ReadBack.{keptIn}
+use Rattle.book_laws.specs.Laws.Cases.{cases-as-readIn}
 use Rattle.book_laws.specs.Laws.Rebuild.{rebuiltIn, rebuiltIn-whole}
+use Rattle.book_laws.specs.Laws.Appended.{appendedIn, all-appendedIn}
 
 module _ (b : List ℕ) (note : ℕ) (xs : List (List ℕ)) (cases : allCases newLayout xs ≡ true) where
   -- a book that fits is refused by neither 24 nor 25
@@ -56,6 +63,15 @@ module _ (b : List ℕ) (used k : ℕ) where
       Accepted b used → acceptOf b used k ≡ record { number = 0; count = d .count; note = d .first; named = 0 }
   accepts = acceptsIn (layoutOf b used) b used k
 
+-- the cases from which it is built again are those that `read` answers, each with its answer and its rating
+pub cases-as-read :
+    (b : List ℕ) (used : ℕ) → Accepted b used → (i : ℕ) → i < describe b used .count →
+    let d = describe b used in
+    let x = getD (casesAt (layoutOf b used) b (d .first) (d .count)) i [] in
+    readOf b used i ≡ record { number = 0; fields = x ++ (rateOf x .number ∷ rateOf x .rating ∷ []) }
+unfolding fieldsOf
+cases-as-read b used fine i is-record = cases-as-readIn (layoutOf b used) b used i is-record fine
+
 module _ (b : List ℕ) (used : ℕ) (bytes : below 256 b ≡ true) (fine : Accepted b used) where
   -- in a buffer that is long enough and has the note at its front; what stood behind stays
   pub rebuilt :
@@ -71,6 +87,18 @@ module _ (b : List ℕ) (used : ℕ) (bytes : below 256 b ≡ true) (fine : Acce
       (c : List ℕ) → length c ≡ used → take (d .first) c ≡ take (d .first) b →
       build c (d .first) (casesAt (layoutOf b used) b (d .first) (d .count)) ≡ record { number = 0; used = used; bytes = take used b }
   rebuilt-whole = rebuiltIn-whole rbk1-lawful b used bytes fine
+
+  -- one case more, and any number of them, whichever way the book was made
+  pub appended :
+      (x : List ℕ) → allCases newLayout (x ∷ []) ≡ true → appendOf b used x .number ≡ 0 → Appended b used x (appendOf b used x)
+  appended = appendedIn rbk1-lawful b used bytes fine
+
+  pub all-appended :
+      let d = describe b used in
+      let book : Written = record { number = 0; used = used; bytes = b } in
+      (xs : List (List ℕ)) → allCases newLayout xs ≡ true → appendAll newLayout book xs .number ≡ 0 →
+      Kept b (d .first) (casesAt (layoutOf b used) b (d .first) (d .count) ++ xs) (appendAll newLayout book xs)
+  all-appended = all-appendedIn rbk1-lawful b used bytes fine
 
 -- What a refusal leaves: the number, zeros, and every byte as it was. A record of RBK1 has 28 fields.
 

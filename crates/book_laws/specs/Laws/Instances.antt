@@ -2,28 +2,37 @@
 -- demand 3 holds of its record. Two cases appended to a fresh book read back. Each operation, refused, leaves what it should. So the
 -- premises of the theorems are met. Assumes nothing.
 use mathlib.Core.Bool.{true}
-use mathlib.Core.List.{List, [], _∷_}
+use mathlib.Core.List.{List, [], _∷_, _++_}
 use mathlib.Core.Path.{_≡_, refl, sym, ap, _∙_}
 use Prim.Native.Nat.{ℕ, suc}
 use native.Mathlib.Nat.{suc-ne-zero}
 use lib.Dec.{lit<, lit≤}
 use lib.ListN.{replicate, set, take}
 use Rattle.exact.specs.Fraction.{whole, _≤F_, _<F_}
+use Rattle.splice.specs.Splice.{splice}
+use Rattle.rating.specs.Rate.{rateOf}
 use Rattle.rating.specs.Exact.{exactRise, permittedOf}
 use Rattle.rating.specs.Laws.Instances.{cable, chosen}
-use Rattle.book_laws.specs.Bytes.{numberAt, wordsAt, stands, below}
+use Rattle.book_laws.specs.Bytes.{numberBytes, numberAt, wordsBytes, wordsAt, stands, below}
 use Rattle.book_laws.specs.Layout.{rbk1}
-use Rattle.book_laws.specs.Trailer.{wrongTrailer, describeAt, describeIn}
-use Rattle.book_laws.specs.Record.{casesAt}
-use Rattle.book_laws.specs.Build.{allCases}
+use Rattle.book_laws.specs.Format.{fieldsOf, recordBytes, trailerBytes}
+use Rattle.book_laws.specs.Trailer.{wrongTrailer, describeAt, describeIn, onBookIn}
+use Rattle.book_laws.specs.Record.{allAgree, casesAt}
+use Rattle.book_laws.specs.Start.{Written}
+use Rattle.book_laws.specs.Append.{appendAfter, appendIn}
+use Rattle.book_laws.specs.Build.{allCases, appendAll}
 use Rattle.book_laws.specs.Built.{builtIn}
-use Rattle.book_laws.specs.Book.{describe, startOf, appendOf, readOf, acceptOf, Accepted, build, Kept}
+use Rattle.book_laws.specs.Book.{describe, startOf, appendOf, readOf, acceptOf, Accepted, Appended, build, Kept}
 use Rattle.book_laws.specs.Laws.Refused.{Unwritten, Unread, Unaccepted}
 use Rattle.book_laws.specs.Laws.Margin.{safe, close}
 use Rattle.book_laws.specs.Laws.Demands.{
   build-fits,
   kept,
   accepted,
+  accepts,
+  cases-as-read,
+  appended,
+  all-appended,
   rebuilt-whole,
   start-refused,
   append-refused,
@@ -34,6 +43,14 @@ use Rattle.book_laws.specs.Laws.Literal.{smallBook, freshBook, literal, 
 
 fine : Accepted smallBook 130
 fine = accepted smallBook 130 0 (ap (λ a. a .number) (literal .accepts 0))
+
+accepts-it : acceptOf smallBook 130 7 ≡ record { number = 0; count = 1; note = 2; named = 0 }
+unfolding describeIn describeAt wrongTrailer stands numberAt
+accepts-it = accepts smallBook 130 7 fine
+
+reads-it : readOf smallBook 130 0 ≡ record { number = 0; fields = cable ++ (rateOf cable .number ∷ rateOf cable .rating ∷ []) }
+unfolding describeIn describeAt wrongTrailer stands casesAt wordsAt numberAt
+reads-it = cases-as-read smallBook 130 fine 0 (lit< tt)
 
 -- Built again in a buffer as long, with the note at its front.
 
@@ -70,6 +87,33 @@ not-refused =
 
 read-back : Kept (replicate 250 7) 2 two-cases (build (replicate 250 7) 2 two-cases)
 read-back = kept (replicate 250 7) 2 two-cases are-cases not-refused
+
+-- Appended to a fresh book, to the book which that left, and both at once.
+
+fresh-fine : Accepted (freshBook 224) 18
+unfolding describeIn describeAt wrongTrailer stands allAgree numberAt
+fresh-fine = record { trailer-right = refl; all-agree = refl }
+
+abbrev one-record : List ℕ
+one-record = appendOf (freshBook 224) 18 cable .bytes
+
+first-record : Appended (freshBook 224) 18 cable (appendOf (freshBook 224) 18 cable)
+unfolding allCases appendIn appendAfter onBookIn describeIn describeAt wrongTrailer stands numberAt below
+first-record = appended (freshBook 224) 18 refl fresh-fine cable refl refl
+
+second-record : Appended one-record 130 (replicate 26 0) (appendOf one-record 130 (replicate 26 0))
+unfolding allCases appendIn appendAfter onBookIn describeIn describeAt wrongTrailer stands numberAt below splice fieldsOf recordBytes
+    wordsBytes numberBytes trailerBytes
+second-record =
+    appended one-record 130 (first-record .still-bytes) (accepted one-record 130 0 (ap (λ a. a .number) (first-record .accepted 0)))
+    (replicate 26 0) refl refl
+
+both-records :
+    let book : Written = record { number = 0; used = 18; bytes = freshBook 224 } in
+    Kept (freshBook 224) 2 two-cases (appendAll rbk1 book two-cases)
+unfolding appendAll appendIn appendAfter onBookIn describeIn describeAt wrongTrailer stands numberAt casesAt below splice fieldsOf
+    recordBytes wordsBytes numberBytes trailerBytes
+both-records = all-appended (freshBook 224) 18 refl fresh-fine two-cases are-cases refl
 
 -- Refused by 24, by 24, by 26 and by 23.
 

@@ -5,16 +5,16 @@ use mathlib.Core.Logic.{_⊎_, inl, inr}
 use mathlib.Core.Path.{_≡_, refl}
 use Prim.Native.Nat.{ℕ, _+_}
 use native.Mathlib.Omega.{arith}
-use lib.Dec.{eqb, ltb, leb}
+use lib.Dec.{ltb, leb}
 use lib.ListN.{length, replicate}
 use Rattle.book_laws.specs.Layout.{Layout, recordFields, recordLength, trailerLength}
-use Rattle.book_laws.specs.Trailer.{Description, describeIn, onBookIn}
+use Rattle.book_laws.specs.Trailer.{describeIn}
 use Rattle.book_laws.specs.Record.{allAgree}
 use Rattle.book_laws.specs.Start.{Written, unwritten, startIn}
 use Rattle.book_laws.specs.Append.{appendAfter, appendIn}
 use Rattle.book_laws.specs.Read.{Fields, unread, readAfter, readIn}
 use Rattle.book_laws.specs.Accept.{Acceptance, unaccepted, acceptAfter, acceptIn}
-use Rattle.book_laws.specs.Laws.Trailer.{either, describe-number}
+use Rattle.book_laws.specs.Laws.Trailer.{either, onBook-each}
 
 -- n is one of the numbers
 abbrev pub OneOf : List ℕ → ℕ → Type 0
@@ -40,15 +40,6 @@ pub record Unaccepted (k : ℕ) (a : Acceptance) : Type 0 where
   pub names : a .number ≡ 23 → a .named ≡ k
   pub names-none : (a .number ≡ 23 → ⊥) → a .named ≡ 0
 
--- what holds of an answer's own refusals, and of what 20, 21 and 22 leave
-on-book :
-    {A : Type 0} (P : A → Type 0) (l : Layout) (b : List ℕ) (used : ℕ) (refuse : ℕ → A) (go-on : Description → A) →
-    P (refuse 0) → P (refuse 20) → P (refuse 21) → P (refuse 22) → P (go-on (describeIn l b used)) → P (onBookIn l b used refuse go-on)
-unfolding onBookIn
-on-book P l b used refuse go-on none is-20 is-21 is-22 own =
-    let d = describeIn l b used in
-    either P (eqb (d .number) 0) _ _ own (describe-number (λ n. P (refuse n)) none is-20 is-21 is-22 l b used)
-
 module _ (l : Layout) (b : List ℕ) where
   pub startIn-refused : (note : ℕ) → (startIn l b note .number ≡ 0 → ⊥) → startIn l b note ≡ record { number = 24; used = 0; bytes = b }
   unfolding startIn unwritten
@@ -67,7 +58,7 @@ module _ (l : Layout) (b : List ℕ) where
       let leaves : (n : ℕ) → OneOf (20 ∷ 21 ∷ 22 ∷ 24 ∷ 25 ∷ []) n → P (unwritten n b) =
       λ n is given. record { number-is = is; no-length = refl; bytes-stay = refl }
       in
-      on-book P l b used _ _ (λ given. absurd (given refl)) (leaves 20 (inl refl)) (leaves 21 (inr (inl refl)))
+      onBook-each P l b used _ _ (λ given. absurd (given refl)) (leaves 20 (inl refl)) (leaves 21 (inr (inl refl)))
       (leaves 22 (inr (inr (inl refl))))
       (either P (leb (l .most) (d .count)) _ _ (leaves 25 (inr (inr (inr (inr (inl refl))))))
       (either P (ltb (length b) (used + recordLength l)) _ _ (leaves 24 (inr (inr (inr (inl refl))))) (λ given. absurd (given refl))))
@@ -77,7 +68,7 @@ module _ (l : Layout) (b : List ℕ) where
   readIn-refused used i =
       let P : Fields → Type 0 = λ f. (f .number ≡ 0 → ⊥) → Unread (recordFields l) f in
       let leaves : (n : ℕ) → OneOf (20 ∷ 21 ∷ 22 ∷ 26 ∷ []) n → P (unread l n) = λ n is given. record { number-is = is; zeros = refl } in
-      on-book P l b used _ _ (λ given. absurd (given refl)) (leaves 20 (inl refl)) (leaves 21 (inr (inl refl)))
+      onBook-each P l b used _ _ (λ given. absurd (given refl)) (leaves 20 (inl refl)) (leaves 21 (inr (inl refl)))
       (leaves 22 (inr (inr (inl refl))))
       (either P (leb (describeIn l b used .count) i) _ _ (leaves 26 (inr (inr (inr (inl refl))))) (λ given. absurd (given refl)))
 
@@ -95,7 +86,7 @@ module _ (l : Layout) (b : List ℕ) where
         names-none = λ other. refl;
       }
       in
-      on-book P l b used _ _ (λ given. absurd (given refl)) (leaves 20 (inl refl) (λ e. omega arith))
+      onBook-each P l b used _ _ (λ given. absurd (given refl)) (leaves 20 (inl refl) (λ e. omega arith))
       (leaves 21 (inr (inl refl)) (λ e. omega arith))
       (leaves 22 (inr (inr (inl refl))) (λ e. omega arith))
       (either P (allAgree l b (d .first) (d .count)) _ _ (λ given. absurd (given refl))

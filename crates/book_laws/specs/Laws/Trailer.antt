@@ -103,3 +103,12 @@ module _ {A : Type 0} (l : Layout) (b : List ℕ) (used : ℕ) (refuse : ℕ →
   pub onBook-refused : (d .number ≡ 0 → ⊥) → onBookIn l b used refuse go-on ≡ refuse (d .number)
   unfolding onBookIn
   onBook-refused given = rw (← is) (simp (ne-eqb _ _ given))
+
+-- what holds of each refusal by the trailer and of what follows it
+pub onBook-each :
+    {A : Type 0} (P : A → Type 0) (l : Layout) (b : List ℕ) (used : ℕ) (refuse : ℕ → A) (go-on : Description → A) →
+    P (refuse 0) → P (refuse 20) → P (refuse 21) → P (refuse 22) → P (go-on (describeIn l b used)) → P (onBookIn l b used refuse go-on)
+unfolding onBookIn
+onBook-each P l b used refuse go-on none is-20 is-21 is-22 own =
+    let d = describeIn l b used in
+    either P (eqb (d .number) 0) _ _ own (describe-number (λ n. P (refuse n)) none is-20 is-21 is-22 l b used)

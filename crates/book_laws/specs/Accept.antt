@@ -1,5 +1,5 @@
 -- docs/BOOK.md, accept: every record is its case's rating. Refusal 23 names some record that is not; which one is free. Assumes nothing.
-use mathlib.Core.Bool.{false, cond}
+use mathlib.Core.Bool.{true, false, cond}
 use mathlib.Core.List.{List}
 use mathlib.Core.Path.{_≡_}
 use Prim.Native.Nat.{ℕ, _-_, _≤_, _<_}
@@ -24,6 +24,11 @@ acceptAfter l d b k =
 -- k is the record that 23 names
 unfoldable pub acceptIn : Layout → List ℕ → ℕ → ℕ → Acceptance
 acceptIn l b used k = onBookIn l b used (λ n. unaccepted n 0) (λ d. acceptAfter l d b k)
+
+-- what accept accepts: a trailer that is not refused, and records that all agree
+pub record AcceptedIn (l : Layout) (b : List ℕ) (used : ℕ) : Type 0 where
+  pub trailer-right : describeIn l b used .number ≡ 0
+  pub all-agree : allAgree l b (describeIn l b used .first) (describeIn l b used .count) ≡ true
 
 -- record k, from 1, is one of the book's, and it is not its case's rating
 pub record DiffersIn (l : Layout) (b : List ℕ) (used k : ℕ) : Type 0 where

@@ -7,9 +7,10 @@ use Rattle.book_laws.specs.Record.{placeFrom}
 use Rattle.book_laws.specs.Start.{Written, startIn}
 use Rattle.book_laws.specs.Append.{appendIn}
 use Rattle.book_laws.specs.Read.{Fields, readIn}
-use Rattle.book_laws.specs.Accept.{Acceptance, acceptIn, DiffersIn}
+use Rattle.book_laws.specs.Accept.{Acceptance, acceptIn, AcceptedIn, DiffersIn}
 use Rattle.book_laws.specs.Build.{buildIn}
 use Rattle.book_laws.specs.Built.{builtIn, FitsIn, KeptIn}
+use Rattle.book_laws.specs.Appended.{AppendedIn}
 
 -- of the book in b
 abbrev pub layoutOf : List ℕ → ℕ → Layout
@@ -34,8 +35,15 @@ readOf b used index = readIn (layoutOf b used) b used index
 abbrev pub acceptOf : List ℕ → ℕ → ℕ → Acceptance
 acceptOf b used k = acceptIn (layoutOf b used) b used k
 
+abbrev pub Accepted : List ℕ → ℕ → Type 0
+Accepted b used = AcceptedIn (layoutOf b used) b used
+
 abbrev pub Differs : List ℕ → ℕ → ℕ → Type 0
 Differs b used k = DiffersIn (layoutOf b used) b used k
+
+-- w is what appending the case x to the accepted book in b left
+abbrev pub Appended : List ℕ → ℕ → List ℕ → Written → Type 0
+Appended b used x w = AppendedIn newLayout b used x w
 
 -- where record i of a book stands, from 0
 abbrev pub placeOf : List ℕ → ℕ → ℕ → ℕ

@@ -11,5 +11,6 @@ pub mod Accept
 pub mod Refusals
 pub mod Build
 pub mod Built
+pub mod Appended
 pub mod Book
 pub mod Laws

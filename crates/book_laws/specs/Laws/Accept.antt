@@ -1,4 +1,5 @@
--- What an accepted book is, and how large the count of a book is, accepted or not. Assumes nothing.
+-- Accept accepts a book, whichever record 23 would name, where it is an accepted one, and only there; and how large the count of a book
+-- is, accepted or not. Assumes nothing.
 use mathlib.Core.Bool.{Bool, true, false, cond}
 use mathlib.Core.List.{List}
 use mathlib.Core.Path.{_≡_, refl, sym, ap, subst, _∙_}
@@ -11,13 +12,8 @@ use borrow.Author.Tests.{eqb-true, eqb-false}
 use Rattle.book_laws.specs.Layout.{Layout, recordLength}
 use Rattle.book_laws.specs.Trailer.{Description, describeIn}
 use Rattle.book_laws.specs.Record.{allAgree}
-use Rattle.book_laws.specs.Accept.{Acceptance, unaccepted, acceptAfter, acceptIn}
-use Rattle.book_laws.specs.Laws.Trailer.{Described, described, onBook-on, onBook-refused}
-
--- what accept accepts: a trailer that is not refused, and records that all agree
-pub record Accepted (l : Layout) (b : List ℕ) (used : ℕ) : Type 0 where
-  pub described : Described l b used (describeIn l b used)
-  pub all-agree : allAgree l b (describeIn l b used .first) (describeIn l b used .count) ≡ true
+use Rattle.book_laws.specs.Accept.{Acceptance, unaccepted, acceptAfter, acceptIn, AcceptedIn}
+use Rattle.book_laws.specs.Laws.Trailer.{described, onBook-on, onBook-refused}
 
 -- how large the count is, and that the note and the records are within the buffer
 pub record Counted (l : Layout) (b : List ℕ) (a : Acceptance) : Type 0 where
@@ -37,7 +33,7 @@ module _ (l : Layout) (b : List ℕ) (used k : ℕ) where
   unfolding acceptIn d
   refused = onBook-refused l b used (λ n. unaccepted n 0) (λ e. acceptAfter l e b k) refl
 
-  pub trailer-passed : acceptIn l b used k .number ≡ 0 → describeIn l b used .number ≡ 0
+  trailer-passed : acceptIn l b used k .number ≡ 0 → describeIn l b used .number ≡ 0
   unfolding unaccepted d
   trailer-passed e = by-test (eqb (d .number) 0) refl
     where
@@ -50,12 +46,18 @@ module _ (l : Layout) (b : List ℕ) (used k : ℕ) where
   agreed true rest e = refl
   agreed false rest e = absurd (suc-ne-zero 22 e)
 
-  pub accepted : acceptIn l b used k .number ≡ 0 → Accepted l b used
+  pub acceptedIn : acceptIn l b used k .number ≡ 0 → AcceptedIn l b used
   unfolding acceptAfter d
-  accepted e =
+  acceptedIn e =
       let none = trailer-passed e in
       let number-is = ap (λ (a : Acceptance). a .number) (on none) in
-      record { described = described l b used none; all-agree = agreed (allAgree l b (d .first) (d .count)) _ (sym number-is ∙ e) }
+      record { trailer-right = none; all-agree = agreed (allAgree l b (d .first) (d .count)) _ (sym number-is ∙ e) }
+
+  pub acceptsIn :
+      AcceptedIn l b used →
+      acceptIn l b used k ≡ record { number = 0; count = describeIn l b used .count; note = describeIn l b used .first; named = 0 }
+  unfolding acceptAfter d
+  acceptsIn fine = on (fine .trailer-right) ∙ simp (fine .all-agree)
 
   none-counted : (n j : ℕ) → Counted l b (unaccepted n j)
   unfolding unaccepted

@@ -147,7 +147,7 @@ moved-on : (xs : List (List ℕ)) (y : List ℕ) (ys : List (List ℕ)) → leng
 moved-on xs y ys = omega (arith, length-append xs (y ∷ []))
 
 module _ {l : Layout} (lawful : Lawful l) (b : List ℕ) (note : ℕ) where
-  appendAll-fits :
+  pub appendAll-fits :
       (xs ys : List (List ℕ)) → allCases l xs ≡ true → allCases l ys ≡ true → FitsIn l b note (length xs + length ys) →
       appendAll l (builtIn l b note xs) ys ≡ builtIn l b note (xs ++ ys)
   unfolding appendAll builtIn
@@ -160,7 +160,7 @@ module _ {l : Layout} (lawful : Lawful l) (b : List ℕ) (note : ℕ) where
       (subst (FitsIn l b note) (moved-on xs y ys) fit)
       ∙ ap (builtIn l b note) (append-snoc xs y ys)
 
-  appendAll-fitted :
+  pub appendAll-fitted :
       (xs ys : List (List ℕ)) → allCases l xs ≡ true → allCases l ys ≡ true → FitsIn l b note (length xs) →
       appendAll l (builtIn l b note xs) ys .number ≡ 0 → FitsIn l b note (length xs + length ys)
   unfolding appendAll builtIn

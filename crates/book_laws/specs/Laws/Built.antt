@@ -10,13 +10,20 @@ use lib.Seq.{length-take-le}
 use borrow.Author.Tests.{le-ltb, eq-eqb}
 use Rattle.splice.specs.Splice.{splice}
 use Rattle.splice.specs.Laws.Splice.{splice-length}
-use Rattle.book_laws.specs.Bytes.{numberBytes, numberAt, wordBytes, stands}
+use Rattle.book_laws.specs.Bytes.{numberBytes, numberAt, wordBytes, stands, below}
 use Rattle.book_laws.specs.Layout.{Layout, recordLength, trailerLength}
 use Rattle.book_laws.specs.Format.{recordsBytes, trailerBytes, countAt, distanceAt, lengthAt}
 use Rattle.book_laws.specs.Trailer.{Description, wrongTrailer, describeAt, describeIn}
 use Rattle.book_laws.specs.Build.{allCases}
 use Rattle.book_laws.specs.Built.{bookBytes, usedFor, FitsIn}
-use Rattle.book_laws.specs.Laws.Bytes.{numberBytes-length, numberAt-skip, numberAt-after, stands-written}
+use Rattle.book_laws.specs.Laws.Bytes.{
+  below-append,
+  numberBytes-length,
+  numberBytes-bytes,
+  numberAt-skip,
+  numberAt-after,
+  stands-written,
+}
 use Rattle.book_laws.specs.Laws.Lawful.{Lawful, distance-of, count-of}
 use Rattle.book_laws.specs.Laws.Record.{recordsBytes-length}
 
@@ -25,6 +32,13 @@ use Rattle.book_laws.specs.Laws.Record.{recordsBytes-length}
 pub trailerBytes-length : {l : Layout} → Lawful l → (n : ℕ) → length (trailerBytes l n) ≡ trailerLength l
 unfolding trailerBytes
 trailerBytes-length {l} lawful n = simp (length-append, numberBytes-length, lawful .mark-length) (omega arith)
+
+pub trailerBytes-bytes : {l : Layout} → Lawful l → (n : ℕ) → below 256 (trailerBytes l n) ≡ true
+unfolding trailerBytes
+trailerBytes-bytes {l} lawful n =
+    let count = below-append 256 (l .mark) _ (lawful .mark-bytes) (numberBytes-bytes (l .width) n) in
+    let distance = below-append 256 _ _ count (numberBytes-bytes (l .width) (recordLength l * n)) in
+    below-append 256 _ _ distance (numberBytes-bytes 4 (recordLength l))
 
 pub bookBytes-length :
     {l : Layout} → Lawful l → (xs : List (List ℕ)) → allCases l xs ≡ true →

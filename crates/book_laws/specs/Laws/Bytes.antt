@@ -10,8 +10,9 @@ use native.Mathlib.Omega.{arith}
 use lib.Dec.{eqb, ltb}
 use lib.ListN.{length, getD, take, drop, length-append, length-drop}
 use lib.Seq.{append-snoc, getD-append-seam, getD-append-add, getD-at, getD-drop, drop-cons, drop-drop, take-add, take-suc}
-use borrow.Author.Tests.{ltb-true, eqb-true, eq-eqb}
+use borrow.Author.Tests.{ltb-true, lt-ltb, eqb-true, eq-eqb}
 use Rattle.bools.specs.Laws.Tests.{both}
+use Rattle.splice.specs.Splice.{splice}
 use Rattle.book_laws.specs.Bytes.{numberBytes, numberAt, wordBytes, wordAt, wordsBytes, wordsAt, stands, below}
 
 -- Lists of fields and of bytes.
@@ -21,6 +22,33 @@ unfolding below
 below-at n [] n>0 e i = n>0
 below-at n (x ∷ xs) n>0 e zero = ltb-true x n (both (ltb x n) (below n xs) e .0)
 below-at n (x ∷ xs) n>0 e (suc i) = below-at n xs n>0 (both (ltb x n) (below n xs) e .1) i
+
+pub below-append : (n : ℕ) (u v : List ℕ) → below n u ≡ true → below n v ≡ true → below n (u ++ v) ≡ true
+unfolding below
+below-append n [] v of-u of-v = of-v
+below-append n (w ∷ u) v of-u of-v =
+    let split = both (ltb w n) (below n u) of-u in
+    ap₂ _&&_ (split .0) (below-append n u v (split .1) of-v)
+
+below-take : (n i : ℕ) (u : List ℕ) → below n u ≡ true → below n (take i u) ≡ true
+unfolding below
+below-take n zero u e = refl
+below-take n (suc i) [] e = refl
+below-take n (suc i) (w ∷ u) e =
+    let split = both (ltb w n) (below n u) e in
+    ap₂ _&&_ (split .0) (below-take n i u (split .1))
+
+below-drop : (n i : ℕ) (u : List ℕ) → below n u ≡ true → below n (drop i u) ≡ true
+unfolding below
+below-drop n zero u e = e
+below-drop n (suc i) [] e = refl
+below-drop n (suc i) (w ∷ u) e = below-drop n i u (both (ltb w n) (below n u) e .1)
+
+pub below-splice :
+    (n : ℕ) (u : List ℕ) (at : ℕ) (v : List ℕ) → below n u ≡ true → below n v ≡ true → below n (splice u at v) ≡ true
+unfolding splice
+below-splice n u at v of-u of-v =
+    below-append n (take at u ++ v) _ (below-append n (take at u) v (below-take n at u of-u) of-v) (below-drop n (at + length v) u of-u)
 
 -- what stands from `at` on, and what stands after it
 pub stand-together :
@@ -55,6 +83,12 @@ unfolding numberBytes
 numberBytes-length zero n = refl
 numberBytes-length (suc w) n =
     length-append (numberBytes w (n / 256)) _ ∙ ap (λ (k : ℕ). k + 1) (numberBytes-length w (n / 256)) ∙ add-one w
+
+pub numberBytes-bytes : (w n : ℕ) → below 256 (numberBytes w n) ≡ true
+unfolding numberBytes below
+numberBytes-bytes zero n = refl
+numberBytes-bytes (suc w) n =
+    below-append 256 (numberBytes w (n / 256)) _ (numberBytes-bytes w (n / 256)) (ap (λ t. t && true) (lt-ltb (n % 256) 256 (omega arith)))
 
 pub numberAt-skip : (p q : List ℕ) (at w : ℕ) → numberAt (p ++ q) (length p + at) w ≡ numberAt q at w
 unfolding numberAt
@@ -131,6 +165,11 @@ pub wordsAt-length : (b : List ℕ) (at n : ℕ) → length (wordsAt b at n) ≡
 unfolding wordsAt
 wordsAt-length b at zero = refl
 wordsAt-length b at (suc n) = ap suc (wordsAt-length b (at + 4) n)
+
+pub wordsBytes-bytes : (ws : List ℕ) → below 256 (wordsBytes ws) ≡ true
+unfolding wordsBytes below
+wordsBytes-bytes [] = refl
+wordsBytes-bytes (w ∷ ws) = below-append 256 (wordBytes w) (wordsBytes ws) (numberBytes-bytes 4 w) (wordsBytes-bytes ws)
 
 wordsBytes-append : (u v : List ℕ) → wordsBytes (u ++ v) ≡ wordsBytes u ++ wordsBytes v
 unfolding wordsBytes

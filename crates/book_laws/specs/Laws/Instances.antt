@@ -1,66 +1,76 @@
--- A book with the note "OK" and the record of one cable, which rates 457.106 A: accept accepts it, it builds again to the same bytes, and
--- demand 3 holds of its record. Two cases appended to a fresh book read back. So the premises of the theorems are met. Assumes nothing.
+-- The small book of docs/BOOK.md, the note "OK" and the record of one cable, which rates 457.106 A: it builds again to the same bytes, and
+-- demand 3 holds of its record. Two cases appended to a fresh book read back. Each operation, refused, leaves what it should. So the
+-- premises of the theorems are met. Assumes nothing.
 use mathlib.Core.Bool.{true}
 use mathlib.Core.List.{List, [], _∷_, _++_}
-use mathlib.Core.Path.{_≡_, refl, sym, ap, ap₂, _∙_}
-use Prim.Native.Nat.{ℕ}
+use mathlib.Core.Path.{_≡_, refl, sym, ap, _∙_}
+use Prim.Native.Nat.{ℕ, suc}
+use native.Mathlib.Nat.{suc-ne-zero}
 use lib.Dec.{lit<, lit≤}
-use lib.ListN.{replicate, take}
+use lib.ListN.{replicate, set, take}
 use Rattle.exact.specs.Fraction.{whole, _≤F_, _<F_}
+use Rattle.splice.specs.Splice.{splice}
+use Rattle.rating.specs.Rate.{rateOf}
 use Rattle.rating.specs.Exact.{exactRise, permittedOf}
 use Rattle.rating.specs.Laws.Answers.{cable}
-use Rattle.rating.specs.Laws.Instances.{chosen, chosen-allowed, answer}
-use Rattle.book_laws.specs.Bytes.{numberBytes, numberAt, wordsAt, wordsBytes, stands, below}
+use Rattle.rating.specs.Laws.Instances.{chosen, chosen-allowed}
+use Rattle.book_laws.specs.Bytes.{numberBytes, numberAt, wordsBytes, wordsAt, stands, below}
 use Rattle.book_laws.specs.Layout.{rbk1}
-use Rattle.book_laws.specs.Format.{fieldsOf, trailerBytes}
-use Rattle.book_laws.specs.Trailer.{wrongTrailer, describeAt, describeIn}
-use Rattle.book_laws.specs.Record.{agrees, allAgree, casesAt}
-use Rattle.book_laws.specs.Accept.{acceptAfter, acceptIn}
-use Rattle.book_laws.specs.Build.{allCases}
+use Rattle.book_laws.specs.Format.{fieldsOf, recordBytes, trailerBytes}
+use Rattle.book_laws.specs.Trailer.{wrongTrailer, describeAt, describeIn, onBookIn}
+use Rattle.book_laws.specs.Record.{allAgree, casesAt}
+use Rattle.book_laws.specs.Start.{Written}
+use Rattle.book_laws.specs.Append.{appendAfter, appendIn}
+use Rattle.book_laws.specs.Build.{allCases, appendAll}
 use Rattle.book_laws.specs.Built.{builtIn}
-use Rattle.book_laws.specs.Book.{describe, acceptOf, build, Kept}
-use Rattle.book_laws.specs.Laws.Trailer.{onBook-on}
-use Rattle.book_laws.specs.Laws.Record.{fields-agree}
+use Rattle.book_laws.specs.Book.{describe, startOf, appendOf, readOf, acceptOf, Accepted, Appended, build, Kept}
+use Rattle.book_laws.specs.Laws.Refused.{Unwritten, Unread, Unaccepted}
 use Rattle.book_laws.specs.Laws.Margin.{safe, close}
-use Rattle.book_laws.specs.Laws.Demands.{build-fits, kept, rebuilt-whole}
+use Rattle.book_laws.specs.Laws.Demands.{
+  build-fits,
+  kept,
+  accepted,
+  accepts,
+  cases-as-read,
+  appended,
+  all-appended,
+  rebuilt-whole,
+  start-refused,
+  append-refused,
+  read-refused,
+  accept-refused,
+}
+use Rattle.book_laws.specs.Laws.Literal.{smallBook, freshBook, literal, edges}
 
-book : List ℕ
-book = 79 ∷ 75 ∷ wordsBytes (cable ++ (0 ∷ 457106 ∷ [])) ++ trailerBytes rbk1 1
+fine : Accepted smallBook 130
+fine = accepted smallBook 130 0 (ap (λ a. a .number) (literal .accepts 0))
 
-its-fields : fieldsOf rbk1 cable ≡ cable ++ (0 ∷ 457106 ∷ [])
-unfolding fieldsOf
-its-fields = ap₂ (λ (n i : ℕ). cable ++ (n ∷ i ∷ [])) (answer .0) (answer .1)
+accepts-it : acceptOf smallBook 130 7 ≡ record { number = 0; count = 1; note = 2; named = 0 }
+unfolding describeIn describeAt wrongTrailer stands numberAt
+accepts-it = accepts smallBook 130 7 fine
 
-described : describe book 130 ≡ record { number = 0; count = 1; first = 2 }
-unfolding describeIn describeAt wrongTrailer stands numberAt numberBytes wordsBytes trailerBytes book
-described = refl
-
-record-agrees : agrees rbk1 book 2 ≡ true
-unfolding wordsAt numberAt numberBytes wordsBytes trailerBytes book
-record-agrees = fields-agree rbk1 book 2 cable refl (sym its-fields)
-
-accepts : acceptOf book 130 0 ≡ record { number = 0; count = 1; note = 2; named = 0 }
-unfolding acceptIn acceptAfter allAgree
-accepts = onBook-on rbk1 book 130 _ _ (sym described) refl ∙ simp record-agrees
+reads-it : readOf smallBook 130 0 ≡ record { number = 0; fields = cable ++ (rateOf cable .number ∷ rateOf cable .rating ∷ []) }
+unfolding describeIn describeAt wrongTrailer stands casesAt wordsAt numberAt
+reads-it = cases-as-read smallBook 130 fine 0 (lit< tt)
 
 -- Built again in a buffer as long, with the note at its front.
 
 built-again :
-    let d = describe book 130 in
-    build (79 ∷ 75 ∷ replicate 128 0) (d .first) (casesAt rbk1 book (d .first) (d .count))
-    ≡ record { number = 0; used = 130; bytes = take 130 book }
-unfolding describeIn describeAt wrongTrailer stands numberAt numberBytes wordsBytes trailerBytes below book
-built-again = rebuilt-whole book 130 0 refl (ap (λ a. a .number) accepts) (79 ∷ 75 ∷ replicate 128 0) refl refl
+    let d = describe smallBook 130 in
+    build (79 ∷ 75 ∷ replicate 128 0) (d .first) (casesAt rbk1 smallBook (d .first) (d .count))
+    ≡ record { number = 0; used = 130; bytes = take 130 smallBook }
+unfolding describeIn describeAt wrongTrailer stands numberAt below
+built-again = rebuilt-whole smallBook 130 refl fine (79 ∷ 75 ∷ replicate 128 0) refl refl
 
 -- Demand 3 of the record.
 
 under : exactRise cable chosen (whole 457106) ≤F whole (permittedOf cable)
-unfolding describeIn describeAt wrongTrailer stands wordsAt numberAt numberBytes wordsBytes trailerBytes book
-under = safe book 130 0 (ap (λ a. a .number) accepts) 0 (lit< tt) refl chosen chosen-allowed
+unfolding describeIn describeAt wrongTrailer stands wordsAt numberAt
+under = safe smallBook 130 fine 0 (lit< tt) refl chosen chosen-allowed
 
 over : whole (permittedOf cable) <F exactRise cable chosen (whole 457108)
-unfolding describeIn describeAt wrongTrailer stands wordsAt numberAt numberBytes wordsBytes trailerBytes book
-over = close book 130 0 (ap (λ a. a .number) accepts) 0 (lit< tt) refl chosen chosen-allowed
+unfolding describeIn describeAt wrongTrailer stands wordsAt numberAt
+over = close smallBook 130 fine 0 (lit< tt) refl chosen chosen-allowed
 
 -- The cable and the case of 26 zeros, appended after a note of two bytes.
 
@@ -78,3 +88,47 @@ not-refused =
 
 read-back : Kept (replicate 250 7) 2 two-cases (build (replicate 250 7) 2 two-cases)
 read-back = kept (replicate 250 7) 2 two-cases are-cases not-refused
+
+-- Appended to a fresh book, to the book which that left, and both at once.
+
+fresh-fine : Accepted (freshBook 224) 18
+unfolding describeIn describeAt wrongTrailer stands allAgree numberAt
+fresh-fine = record { trailer-right = refl; all-agree = refl }
+
+abbrev one-record : List ℕ
+one-record = appendOf (freshBook 224) 18 cable .bytes
+
+first-record : Appended (freshBook 224) 18 cable (appendOf (freshBook 224) 18 cable)
+unfolding allCases appendIn appendAfter onBookIn describeIn describeAt wrongTrailer stands numberAt below
+first-record = appended (freshBook 224) 18 refl fresh-fine cable refl refl
+
+second-record : Appended one-record 130 (replicate 26 0) (appendOf one-record 130 (replicate 26 0))
+unfolding allCases appendIn appendAfter onBookIn describeIn describeAt wrongTrailer stands numberAt below splice fieldsOf recordBytes
+    wordsBytes numberBytes trailerBytes
+second-record =
+    appended one-record 130 (first-record .still-bytes) (accepted one-record 130 0 (ap (λ a. a .number) (first-record .accepted 0)))
+    (replicate 26 0) refl refl
+
+both-records :
+    let book : Written = record { number = 0; used = 18; bytes = freshBook 224 } in
+    Kept (freshBook 224) 2 two-cases (appendAll rbk1 book two-cases)
+unfolding appendAll appendIn appendAfter onBookIn describeIn describeAt wrongTrailer stands numberAt casesAt below splice fieldsOf
+    recordBytes wordsBytes numberBytes trailerBytes
+both-records = all-appended (freshBook 224) 18 refl fresh-fine two-cases are-cases refl
+
+-- Refused by 24, by 24, by 26 and by 23.
+
+not-none : {n m : ℕ} → n ≡ suc m → n ≡ 0 → ⊥
+not-none is none = suc-ne-zero _ (sym is ∙ none)
+
+start-left : startOf (replicate 17 7) 2 ≡ record { number = 24; used = 0; bytes = replicate 17 7 }
+start-left = start-refused (replicate 17 7) 2 (not-none (ap (λ w. w .number) (edges .start-short)))
+
+append-left : Unwritten (freshBook 111) (appendOf (freshBook 111) 18 cable)
+append-left = append-refused (freshBook 111) 18 cable (not-none (ap (λ w. w .number) (edges .append-short cable)))
+
+read-left : Unread 28 (readOf smallBook 130 1)
+read-left = read-refused smallBook 130 1 (not-none (ap (λ f. f .number) (edges .index-at-count)))
+
+accept-left : Unaccepted 1 (acceptOf (set smallBook 113 147) 130 1)
+accept-left = accept-refused (set smallBook 113 147) 130 1 (not-none (ap (λ a. a .number) (edges .rating-changed 1)))

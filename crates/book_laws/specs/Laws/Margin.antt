@@ -2,9 +2,8 @@
 -- bytes and used length that accept accepts, any of its records with answer 0, and all fractions between the stated ends, the exact rise at
 -- the record's rating is at most the permitted rise, and at 2 mA more it is above. Assumes nothing.
 use mathlib.Core.List.{List, [], _∷_, _++_}
-use mathlib.Core.Path.{_≡_, refl, sym, subst, _∙_}
+use mathlib.Core.Path.{_≡_, sym, subst, _∙_}
 use Prim.Native.Nat.{ℕ, _+_, _<_}
-use borrow.Author.Tests.{lt-leb}
 use Rattle.exact.specs.Fraction.{whole, _≤F_, _<F_}
 use Rattle.rating.specs.Rate.{rateOf}
 use Rattle.rating.specs.Chosen.{Chosen}
@@ -15,31 +14,21 @@ use Rattle.rating.specs.Laws.Margin as Case
 use Rattle.book_laws.specs.Layout.{Layout, rbk1}
 use Rattle.book_laws.specs.Trailer.{describeIn}
 use Rattle.book_laws.specs.Record.{placeFrom, caseAt, answerAt, ratingAt}
-use Rattle.book_laws.specs.Read.{readAfter, readIn}
-use Rattle.book_laws.specs.Accept.{acceptIn}
-use Rattle.book_laws.specs.Book.{describe, readOf, acceptOf, placeOf}
-use Rattle.book_laws.specs.Laws.Trailer.{onBook-on}
-use Rattle.book_laws.specs.Laws.Record.{Judged, fields-are, judged, allAgree-each}
-use Rattle.book_laws.specs.Laws.Accept.{trailer-passed, accepted}
+use Rattle.book_laws.specs.Accept.{AcceptedIn}
+use Rattle.book_laws.specs.Book.{describe, readOf, Accepted, placeOf}
+use Rattle.book_laws.specs.Laws.Record.{Judged, judged, allAgree-each}
+use Rattle.book_laws.specs.Laws.Cases.{as-readIn}
 
-module _ (l : Layout) (b : List ℕ) (used k : ℕ) (accepts : acceptIn l b used k .number ≡ 0) (i : ℕ)
-    (is-record : i < describeIn l b used .count) where
+module _ (l : Layout) (b : List ℕ) (used : ℕ) (fine : AcceptedIn l b used) (i : ℕ) (is-record : i < describeIn l b used .count) where
   abbrev place-in : ℕ
   place-in = placeFrom l (describeIn l b used .first) i
 
   pub judgedIn : Judged l b place-in
-  judgedIn = judged l b place-in (allAgree-each l b _ _ i (accepted l b used k accepts .all-agree) is-record)
-
-  pub as-readIn :
-      readIn l b used i ≡ record { number = 0; fields = caseAt l b place-in ++ (answerAt l b place-in ∷ ratingAt l b place-in ∷ []) }
-  unfolding readIn readAfter
-  as-readIn =
-      onBook-on l b used _ _ refl (trailer-passed l b used k accepts)
-      ∙ simp (lt-leb (describeIn l b used .count) i is-record, fields-are l b place-in)
+  judgedIn = judged l b place-in (allAgree-each l b _ _ i (fine .all-agree) is-record)
 
 -- For RBK1, whose rule is `rateOf`.
 
-module _ (b : List ℕ) (used k : ℕ) (accepts : acceptOf b used k .number ≡ 0) (i : ℕ) (is-record : i < describe b used .count) where
+module _ (b : List ℕ) (used : ℕ) (fine : Accepted b used) (i : ℕ) (is-record : i < describe b used .count) where
   abbrev place : ℕ
   place = placeOf b used i
 
@@ -51,11 +40,11 @@ module _ (b : List ℕ) (used k : ℕ) (accepts : acceptOf b used k .number ≡ 
 
   -- its answer and rating are those of its case
   pub judged-rightly : (answerAt rbk1 b place ≡ rateOf its-case .number) × (its-rating ≡ rateOf its-case .rating)
-  judged-rightly = let is = judgedIn rbk1 b used k accepts i is-record in (is .answer-is, is .rating-is)
+  judged-rightly = let is = judgedIn rbk1 b used fine i is-record in (is .answer-is, is .rating-is)
 
   -- `read` answers its case, its answer and its rating
   pub as-read : readOf b used i ≡ record { number = 0; fields = its-case ++ (answerAt rbk1 b place ∷ its-rating ∷ []) }
-  as-read = as-readIn rbk1 b used k accepts i is-record
+  as-read = as-readIn rbk1 b used i is-record (fine .trailer-right)
 
   module _ (rated : answerAt rbk1 b place ≡ 0) (c : Chosen) (allowed : Allowed (own its-case) its-case c) where
     pub safe : exactRise its-case c (whole its-rating) ≤F whole (permittedOf its-case)

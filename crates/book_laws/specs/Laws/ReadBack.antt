@@ -67,7 +67,7 @@ module _ {l : Layout} (lawful : Lawful l) (b : List ℕ) (note : ℕ) (xs : List
         onBook-on l book (usedFor l note (length xs)) _ _ (sym (built-described lawful b note xs cases fit)) refl
         ∙ simp built-agrees
 
-    built-kept : KeptIn l b note xs (builtIn l b note xs)
+    pub built-kept : KeptIn l b note xs (builtIn l b note xs)
     unfolding builtIn
     built-kept =
         let note-within : note ≤ length b = omega (arith, fit .room) in

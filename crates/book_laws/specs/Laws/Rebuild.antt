@@ -1,60 +1,29 @@
 -- Demand 2: an accepted book, built again from its note and its cases, has the same used length and the same bytes, and nothing is
 -- refused on the way. Assumes nothing.
-use mathlib.Core.Bool.{true, _&&_}
+use mathlib.Core.Bool.{true}
 use mathlib.Core.List.{List, [], _∷_, _++_, append-nil}
-use mathlib.Core.Path.{_≡_, refl, sym, ap, ap₂, _∙_}
+use mathlib.Core.Path.{_≡_, sym, ap, ap₂, _∙_}
 use Prim.Native.Nat.{ℕ, zero, suc, _+_, _-_, _*_, _≤_}
-use native.Mathlib.Numerals.{add-one}
 use native.Mathlib.Omega.{arith}
-use lib.ListN.{length, take, drop, length-append}
+use lib.ListN.{length, take, drop}
 use lib.Seq.{take-add, drop-length}
-use borrow.Author.Tests.{eq-eqb, lt-ltb}
 use Rattle.bools.specs.Laws.Tests.{both}
 use Rattle.splice.specs.Splice.{splice}
-use Rattle.book_laws.specs.Bytes.{numberBytes, wordAt, wordsAt, wordsBytes, stands, below}
+use Rattle.book_laws.specs.Bytes.{numberBytes, wordsBytes, stands, below}
 use Rattle.book_laws.specs.Layout.{Layout, recordFields, recordLength, trailerLength}
 use Rattle.book_laws.specs.Format.{recordBytes, recordsBytes, trailerBytes, countAt, distanceAt, lengthAt}
 use Rattle.book_laws.specs.Trailer.{describeIn}
 use Rattle.book_laws.specs.Record.{placeFrom, caseAt, agrees, allAgree, casesAt}
-use Rattle.book_laws.specs.Accept.{acceptIn}
-use Rattle.book_laws.specs.Build.{allCases, buildIn}
+use Rattle.book_laws.specs.Accept.{AcceptedIn}
+use Rattle.book_laws.specs.Build.{buildIn}
 use Rattle.book_laws.specs.Built.{bookBytes, usedFor, builtIn, FitsIn}
-use Rattle.book_laws.specs.Laws.Bytes.{
-  stand-together,
-  stands-read,
-  numberAt-below,
-  numberBytes-read,
-  wordsAt-length,
-  wordsBytes-read,
-}
+use Rattle.book_laws.specs.Laws.Bytes.{stand-together, stands-read, numberBytes-read, wordsBytes-read}
 use Rattle.book_laws.specs.Laws.Lawful.{Lawful}
+use Rattle.book_laws.specs.Laws.Trailer.{described}
 use Rattle.book_laws.specs.Laws.Record.{recordsBytes-append, agreed-fields}
-use Rattle.book_laws.specs.Laws.Accept.{Accepted, accepted}
 use Rattle.book_laws.specs.Laws.Built.{bookBytes-length}
-use Rattle.book_laws.specs.Laws.Build.{allCases-append, buildIn-fits}
-
--- Bytes read as cases are cases.
-
-words-of : (b : List ℕ) (at n : ℕ) → below 256 b ≡ true → below 4294967296 (wordsAt b at n) ≡ true
-unfolding below wordsAt
-words-of b at zero bytes = refl
-words-of b at (suc n) bytes = ap₂ _&&_ (lt-ltb (wordAt b at) 4294967296 (numberAt-below b at 4 bytes)) (words-of b (at + 4) n bytes)
-
-cases-are : (l : Layout) (b : List ℕ) (first n : ℕ) → below 256 b ≡ true → allCases l (casesAt l b first n) ≡ true
-unfolding allCases casesAt
-cases-are l b first zero bytes = refl
-cases-are l b first (suc n) bytes =
-    let at = placeFrom l first n in
-    let is-case =
-    ap₂ _&&_ (eq-eqb (length (wordsAt b at (l .inputs))) (l .inputs) (wordsAt-length b at (l .inputs))) (words-of b at (l .inputs) bytes)
-    in
-    allCases-append l (casesAt l b first n) _ (cases-are l b first n bytes) (ap₂ _&&_ is-case refl)
-
-casesAt-length : (l : Layout) (b : List ℕ) (first n : ℕ) → length (casesAt l b first n) ≡ n
-unfolding casesAt
-casesAt-length l b first zero = refl
-casesAt-length l b first (suc n) =
-    length-append (casesAt l b first n) _ ∙ ap (λ (k : ℕ). k + 1) (casesAt-length l b first n) ∙ add-one n
+use Rattle.book_laws.specs.Laws.Build.{buildIn-fits}
+use Rattle.book_laws.specs.Laws.Cases.{cases-are, casesAt-length}
 
 -- The records that agree, and the trailer, are the bytes that stand there.
 
@@ -98,9 +67,9 @@ trailer-stands {l} lawful b at n bytes h marked count-is distance-is length-is =
     in
     stand-together b at (4 + 2 * w) 4 first-three length-stands
 
--- The book that accept accepts is the book of its cases.
+-- An accepted book is the book of its cases.
 
-module _ {l : Layout} (lawful : Lawful l) (b : List ℕ) (used : ℕ) (bytes : below 256 b ≡ true) (fine : Accepted l b used) where
+module _ {l : Layout} (lawful : Lawful l) (b : List ℕ) (used : ℕ) (bytes : below 256 b ≡ true) (fine : AcceptedIn l b used) where
   abbrev note : ℕ
   note = describeIn l b used .first
 
@@ -113,7 +82,7 @@ module _ {l : Layout} (lawful : Lawful l) (b : List ℕ) (used : ℕ) (bytes : b
   book-stands : bookBytes l cases ≡ take (recordLength l * count + trailerLength l) (drop note b)
   unfolding bookBytes
   book-stands =
-      let told = fine .described in
+      let told = described l b used (fine .trailer-right) in
       let place : used - trailerLength l ≡ placeFrom l note count = omega (arith, told .places) in
       let trailer =
       trailer-stands lawful b (used - trailerLength l) count bytes (omega (arith, told .places, told .used-most)) (told .marked)
@@ -127,35 +96,40 @@ module _ {l : Layout} (lawful : Lawful l) (b : List ℕ) (used : ℕ) (bytes : b
       ∙ trailer
       ∙ ap (λ (at : ℕ). take (trailerLength l) (drop at b)) place)
 
+  pub used-is : usedFor l note (length cases) ≡ used
+  used-is = ap (usedFor l note) (casesAt-length l b note count) ∙ described l b used (fine .trailer-right) .places
+
+  pub cases-fit : (c : List ℕ) → used ≤ length c → FitsIn l c note (length cases)
+  cases-fit c long =
+      let told = described l b used (fine .trailer-right) in
+      record { room = omega (arith, used-is, long); most = omega (arith, casesAt-length l b note count, told .most) }
+
   -- in a buffer c that is long enough and has the note at its front
-  built-again :
+  pub cases-stand :
       (c : List ℕ) → used ≤ length c → take note c ≡ take note b →
-      buildIn l c note cases ≡ record { number = 0; used = used; bytes = take used b ++ drop used c }
+      builtIn l c note cases ≡ record { number = 0; used = used; bytes = take used b ++ drop used c }
   unfolding builtIn splice
-  built-again c long same-note =
-      let told = fine .described in
-      let n-is = casesAt-length l b note count in
-      let are-cases = cases-are l b note count bytes in
-      let used-is : usedFor l note (length cases) ≡ used = ap (usedFor l note) n-is ∙ told .places in
-      let fit : FitsIn l c note (length cases) = record { room = omega (arith, used-is, long); most = omega (arith, n-is, told .most) } in
-      let end : note + length (bookBytes l cases) ≡ used = omega (arith, bookBytes-length lawful cases are-cases, used-is) in
-      let size : note + (recordLength l * count + trailerLength l) ≡ used = omega (arith, told .places) in
+  cases-stand c long same-note =
+      let end : note + length (bookBytes l cases) ≡ used =
+      omega (arith, bookBytes-length lawful cases (cases-are l b note count bytes), used-is)
+      in
+      let size : note + (recordLength l * count + trailerLength l) ≡ used =
+      omega (arith, described l b used (fine .trailer-right) .places)
+      in
       let front : take note c ++ bookBytes l cases ≡ take used b =
       ap₂ _++_ same-note book-stands ∙ sym (take-add note (recordLength l * count + trailerLength l) b) ∙ ap (λ (k : ℕ). take k b) size
       in
-      buildIn-fits lawful c note cases are-cases fit
-      ∙ ap₂ (λ (u : ℕ) (m : List ℕ). record { number = 0; used = u; bytes = m }) used-is
+      ap₂ (λ (u : ℕ) (m : List ℕ). record { number = 0; used = u; bytes = m }) used-is
       (ap₂ _++_ front (ap (λ (k : ℕ). drop k c) end))
 
-module _ {l : Layout} (lawful : Lawful l) (b : List ℕ) (used k : ℕ) (bytes : below 256 b ≡ true)
-    (none : acceptIn l b used k .number ≡ 0) where
-  -- For every buffer of bytes and used length that accept accepts: built in a buffer that is long enough and has the note at its front,
-  -- nothing is refused, the used length is the same, and so is every byte of the book; what stood behind stays.
+  -- For every accepted book in a buffer of bytes: built in a buffer that is long enough and has the note at its front, nothing is refused,
+  -- the used length is the same, and so is every byte of the book; what stood behind stays.
   pub rebuiltIn :
       let d = describeIn l b used in
       (c : List ℕ) → used ≤ length c → take (d .first) c ≡ take (d .first) b →
       buildIn l c (d .first) (casesAt l b (d .first) (d .count)) ≡ record { number = 0; used = used; bytes = take used b ++ drop used c }
-  rebuiltIn = built-again lawful b used bytes (accepted l b used k none)
+  rebuiltIn c long same-note =
+      buildIn-fits lawful c note cases (cases-are l b note count bytes) (cases-fit c long) ∙ cases-stand c long same-note
 
   -- in a buffer as long as the book
   pub rebuiltIn-whole :

@@ -6,7 +6,7 @@ use mathlib.Core.Path.{_≡_, refl, sym, ap, ap₂, _∙_}
 use Prim.Native.Nat.{ℕ, zero, suc, _+_, _*_, _<_}
 use native.Mathlib.Numerals.{add-one}
 use native.Mathlib.Omega.{arith}
-use lib.Dec.{eqb, ltb}
+use lib.Dec.{eqb}
 use lib.ListN.{length, getD, take, drop, length-append}
 use lib.Seq.{take-at, drop-at}
 use borrow.Author.Tests.{eqb-true, eqb-false, eq-eqb, lt-ltb}
@@ -16,7 +16,15 @@ use Rattle.book_laws.specs.Layout.{Layout, recordFields, recordLength}
 use Rattle.book_laws.specs.Format.{fieldsOf, recordBytes, recordsBytes}
 use Rattle.book_laws.specs.Record.{placeFrom, caseAt, answerAt, ratingAt, agrees, allAgree}
 use Rattle.book_laws.specs.Build.{allCases}
-use Rattle.book_laws.specs.Laws.Bytes.{wordsBytes-length, wordsAt-length, wordsAt-add, wordsAt-skip, wordsAt-written}
+use Rattle.book_laws.specs.Laws.Bytes.{
+  below-append,
+  wordsBytes-length,
+  wordsBytes-bytes,
+  wordsAt-length,
+  wordsAt-add,
+  wordsAt-skip,
+  wordsAt-written,
+}
 use Rattle.book_laws.specs.Laws.Lawful.{Lawful}
 
 -- a case of the layout: as many words of 32 bits as it stores
@@ -68,19 +76,17 @@ recordsBytes-append l (x ∷ xs) ys =
 
 -- The fields of a record are words: the answer and the rating are small.
 
-below-append : (n : ℕ) (u v : List ℕ) → below n u ≡ true → below n v ≡ true → below n (u ++ v) ≡ true
-unfolding below
-below-append n [] v of-u of-v = of-v
-below-append n (w ∷ u) v of-u of-v =
-    let split = both (ltb w n) (below n u) of-u in
-    ap₂ _&&_ (split .0) (below-append n u v (split .1) of-v)
-
 fieldsOf-words : {l : Layout} → Lawful l → (x : List ℕ) → below 4294967296 x ≡ true → below 4294967296 (fieldsOf l x) ≡ true
 unfolding fieldsOf below
 fieldsOf-words {l} lawful x words =
     let number-is-word = lt-ltb (l .rule x .number) 4294967296 (lawful .number-fits x) in
     let rating-is-word = lt-ltb (l .rule x .rating) 4294967296 (lawful .rating-fits x) in
     below-append 4294967296 x _ words (ap₂ (λ (s t : Bool). s && (t && true)) number-is-word rating-is-word)
+
+-- and it is written in bytes
+pub recordBytes-bytes : (l : Layout) (x : List ℕ) → below 256 (recordBytes l x) ≡ true
+unfolding recordBytes
+recordBytes-bytes l x = wordsBytes-bytes (fieldsOf l x)
 
 -- A written record reads back.
 

@@ -74,19 +74,25 @@ described l b used e =
       size-is = fields .size-is;
     }
 
--- the numbers that a trailer is refused by
-pub describe-most : (l : Layout) (b : List ℕ) (used : ℕ) → describeIn l b used .number ≤ 22
+-- what holds of both answers of a test holds of the one that is chosen
+pub either : {A : Type 0} (P : A → Type 0) (given : Bool) (refusal rest : A) → P refusal → P rest → P (cond given refusal rest)
+either P true refusal rest of-refusal of-rest = of-refusal
+either P false refusal rest of-refusal of-rest = of-rest
+
+-- 20, 21 and 22 are the numbers that a trailer is refused by
+pub describe-number :
+    (P : ℕ → Type 0) → P 0 → P 20 → P 21 → P 22 → (l : Layout) (b : List ℕ) (used : ℕ) → P (describeIn l b used .number)
 unfolding describeIn describeAt undescribed
-describe-most l b used =
+describe-number P none is-20 is-21 is-22 l b used =
     let at = used - trailerLength l in
-    first-most (ltb (length b) used) 20 _ (lit≤ tt)
-    (first-most (ltb used (trailerLength l)) 21 _ (lit≤ tt)
-    (first-most (not (stands (l .mark) b at)) 21 _ (lit≤ tt)
-    (first-most (wrongTrailer l at (countAt l b at) (distanceAt l b at) (lengthAt l b at)) 22 _ (lit≤ tt) (lit≤ tt))))
-  where
-    first-most : (given : Bool) (n : ℕ) (rest : Description) → n ≤ 22 → rest .number ≤ 22 → cond given (undescribed n) rest .number ≤ 22
-    first-most true n rest n≤ rest≤ = n≤
-    first-most false n rest n≤ rest≤ = rest≤
+    let of-number : Description → Type 0 = λ d. P (d .number) in
+    either of-number (ltb (length b) used) _ _ is-20
+    (either of-number (ltb used (trailerLength l)) _ _ is-21
+    (either of-number (not (stands (l .mark) b at)) _ _ is-21
+    (either of-number (wrongTrailer l at (countAt l b at) (distanceAt l b at) (lengthAt l b at)) _ _ is-22 none)))
+
+pub describe-most : (l : Layout) (b : List ℕ) (used : ℕ) → describeIn l b used .number ≤ 22
+describe-most = describe-number (λ n. n ≤ 22) (lit≤ tt) (lit≤ tt) (lit≤ tt) (lit≤ tt)
 
 module _ {A : Type 0} (l : Layout) (b : List ℕ) (used : ℕ) (refuse : ℕ → A) (go-on : Description → A) {d : Description}
     (is : d ≡ describeIn l b used) where
@@ -97,3 +103,12 @@ module _ {A : Type 0} (l : Layout) (b : List ℕ) (used : ℕ) (refuse : ℕ →
   pub onBook-refused : (d .number ≡ 0 → ⊥) → onBookIn l b used refuse go-on ≡ refuse (d .number)
   unfolding onBookIn
   onBook-refused given = rw (← is) (simp (ne-eqb _ _ given))
+
+-- what holds of each refusal by the trailer and of what follows it
+pub onBook-each :
+    {A : Type 0} (P : A → Type 0) (l : Layout) (b : List ℕ) (used : ℕ) (refuse : ℕ → A) (go-on : Description → A) →
+    P (refuse 0) → P (refuse 20) → P (refuse 21) → P (refuse 22) → P (go-on (describeIn l b used)) → P (onBookIn l b used refuse go-on)
+unfolding onBookIn
+onBook-each P l b used refuse go-on none is-20 is-21 is-22 own =
+    let d = describeIn l b used in
+    either P (eqb (d .number) 0) _ _ own (describe-number (λ n. P (refuse n)) none is-20 is-21 is-22 l b used)

@@ -10,6 +10,7 @@ pub mod BothEnds
 pub mod OnePoint
 pub mod SlType
 pub mod Arrangements
+pub mod Logarithms
 pub mod Stage10
 pub mod Bounds
 pub mod First

@@ -1,5 +1,7 @@
 -- What stage 10's theorems need of an arrangement: the range of its numbers, and how close they lie to their exact values. For a cable
 -- that carries alternating current, R and dd are bounded here once, so that an arrangement adds its own S and W alone. Assumes nothing.
+use mathlib.Core.Path.{_≡_}
+use mathlib.Core.Bool.{true}
 use mathlib.Core.List.{List}
 use Prim.Native.Nat.{ℕ, _≤_}
 use lib.Dec.{lit<, lit≤}
@@ -31,6 +33,7 @@ pub record Close (e : Numbers*) (ν : Numbers) : Type 0 where
   pub dd : Within 2500 (whole 2) (e .dd) (whole (ν .dd))
 
 pub record Lawful (a : Arrangement) : Type 0 where
+  pub apart : {x : List ℕ} → a .reactive ≡ true → a .geometry x ≡ true → Field.sheathDiameter x ≤ Field.spacing x
   pub spaced : {x : List ℕ} → Fit a x → Field.conductorDiameter x ≤ Field.spacing x
   pub in-range : {x : List ℕ} → Fit a x → InRange (a .numbers x)
   pub close : {x : List ℕ} {c : Chosen} → Allowed a x c → Fit a x → Close (a .numbers* x c) (a .numbers x)

@@ -1,6 +1,6 @@
 -- Every arrangement is lawful, whichever number field 0 has; and those that refusal 1 lets pass are 1 to 5. Assumes nothing.
 use mathlib.Core.Path.{_≡_, refl, ap, _∙_}
-use mathlib.Core.Bool.{Bool, true, false, cond}
+use mathlib.Core.Bool.{Bool, true, false, cond, false≢true}
 use mathlib.Core.List.{List}
 use Prim.Native.Nat.{ℕ, zero, suc, _≤_, _<_}
 use native.Mathlib.Omega.{arith}
@@ -31,6 +31,7 @@ unfolding noArrangement
 no-arrangement-lawful =
     let one : In 1 3 1 = record { least = lit≤ tt; most = lit≤ tt } in
     record {
+      apart = λ reactive placed. absurd (false≢true reactive);
       spaced = spaced;
       in-range = λ fit. alternating-in-range fit (spaced fit) one (lit≤ tt) (lit≤ tt);
       close = λ allowed fit. alternating-close fit (spaced fit) one allowed none-lost none-lost;

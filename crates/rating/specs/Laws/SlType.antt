@@ -105,6 +105,7 @@ pub sl-type-lawful : Lawful slType
 unfolding slType
 sl-type-lawful =
     record {
+      apart = λ {x} reactive placed. leb-true _ _ (both (leb (Field.sheathDiameter x) (Field.spacing x)) _ placed .0);
       spaced = spaced;
       in-range =
           λ {x} fit. alternating-in-range fit (spaced fit) three (Law.slLoss-most (X x) (Rs-range (fit .sound) .most)) (W-most fit);

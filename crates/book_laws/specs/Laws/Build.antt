@@ -64,9 +64,9 @@ module _ {l : Layout} (lawful : Lawful l) (b : List ℕ) (note : ℕ) (xs : List
   append-fitted e =
       let number : Written → ℕ = λ w. w .number in
       let after-trailer = sym (ap number on-built) ∙ e in
-      let full-test = passed number (leb (l .most) (length xs)) _ _ (suc-ne-zero 24) after-trailer in
+      let full-test = passed number (leb (l .most) (length xs)) (unwritten 25 book) _ (suc-ne-zero 24) after-trailer in
       let after-full = sym (ap number (full-test .1)) ∙ after-trailer in
-      let room-test = passed number (ltb (length book) (used + recordLength l)) _ _ (suc-ne-zero 23) after-full in
+      let room-test = passed number (ltb (length book) (used + recordLength l)) (unwritten 24 book) _ (suc-ne-zero 23) after-full in
       record {
         room = omega (arith, ltb-false (length book) (used + recordLength l) (room-test .0), built-length lawful b note xs cases fit);
         most = omega (arith, leb-false (l .most) (length xs) (full-test .0));

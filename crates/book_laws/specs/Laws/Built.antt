@@ -36,9 +36,9 @@ trailerBytes-length {l} lawful n = simp (length-append, numberBytes-length, lawf
 pub trailerBytes-bytes : {l : Layout} → Lawful l → (n : ℕ) → below 256 (trailerBytes l n) ≡ true
 unfolding trailerBytes
 trailerBytes-bytes {l} lawful n =
-    let count = below-append 256 (l .mark) _ (lawful .mark-bytes) (numberBytes-bytes (l .width) n) in
-    let distance = below-append 256 _ _ count (numberBytes-bytes (l .width) (recordLength l * n)) in
-    below-append 256 _ _ distance (numberBytes-bytes 4 (recordLength l))
+    let to-count = below-append 256 (l .mark) _ (lawful .mark-bytes) (numberBytes-bytes (l .width) _) in
+    let to-distance = below-append 256 _ _ to-count (numberBytes-bytes (l .width) _) in
+    below-append 256 _ _ to-distance (numberBytes-bytes 4 _)
 
 pub bookBytes-length :
     {l : Layout} → Lawful l → (xs : List (List ℕ)) → allCases l xs ≡ true →

@@ -84,12 +84,6 @@ numberBytes-length zero n = refl
 numberBytes-length (suc w) n =
     length-append (numberBytes w (n / 256)) _ ∙ ap (λ (k : ℕ). k + 1) (numberBytes-length w (n / 256)) ∙ add-one w
 
-pub numberBytes-bytes : (w n : ℕ) → below 256 (numberBytes w n) ≡ true
-unfolding numberBytes below
-numberBytes-bytes zero n = refl
-numberBytes-bytes (suc w) n =
-    below-append 256 (numberBytes w (n / 256)) _ (numberBytes-bytes w (n / 256)) (ap (λ t. t && true) (lt-ltb (n % 256) 256 (omega arith)))
-
 pub numberAt-skip : (p q : List ℕ) (at w : ℕ) → numberAt (p ++ q) (length p + at) w ≡ numberAt q at w
 unfolding numberAt
 numberAt-skip p q at zero = refl
@@ -140,6 +134,13 @@ numberAt-after p w n q {at} before h =
     ap (λ (i : ℕ). numberAt (p ++ (numberBytes w n ++ q)) i w) (sym before ∙ sym (add-zero (length p)))
     ∙ numberAt-skip p (numberBytes w n ++ q) 0 w
     ∙ numberAt-written w n q h
+
+-- what is written are bytes
+pub numberBytes-bytes : (w n : ℕ) → below 256 (numberBytes w n) ≡ true
+unfolding numberBytes below
+numberBytes-bytes zero n = refl
+numberBytes-bytes (suc w) n =
+    below-append 256 (numberBytes w (n / 256)) _ (numberBytes-bytes w (n / 256)) (ap (λ t. t && true) (lt-ltb (n % 256) 256 (omega arith)))
 
 -- A field as the code writes and reads it.
 

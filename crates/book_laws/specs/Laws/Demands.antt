@@ -63,7 +63,7 @@ module _ (b : List ℕ) (used k : ℕ) where
       Accepted b used → acceptOf b used k ≡ record { number = 0; count = d .count; note = d .first; named = 0 }
   accepts = acceptsIn (layoutOf b used) b used k
 
--- the cases from which it is built again are those that `read` answers, each with its answer and its rating
+-- the cases from which an accepted book is built again are those that `read` answers, each with its answer and its rating
 pub cases-as-read :
     (b : List ℕ) (used : ℕ) → Accepted b used → (i : ℕ) → i < describe b used .count →
     let d = describe b used in

@@ -1,6 +1,6 @@
 -- The small book of docs/BOOK.md, the note "OK" and the record of one cable, which rates 457.106 A: it builds again to the same bytes, and
--- demand 3 holds of its record. Two cases appended to a fresh book read back. Each operation, refused, leaves what it should. So the
--- premises of the theorems are met. Assumes nothing.
+-- demand 3 holds of its record. Two cases appended to a fresh book read back, and so does one appended to a book with a record. What each
+-- operation leaves where it is refused. So the premises of the theorems are met. Assumes nothing.
 use mathlib.Core.Bool.{true}
 use mathlib.Core.List.{List, [], _∷_, _++_}
 use mathlib.Core.Path.{_≡_, refl, sym, ap, _∙_}
@@ -40,37 +40,37 @@ use Rattle.book_laws.specs.Laws.Demands.{
   read-refused,
   accept-refused,
 }
-use Rattle.book_laws.specs.Laws.Literal.{smallBook, freshBook, literal, edges}
+use Rattle.book_laws.specs.Laws.Literal.{small-book, fresh-book, literal, edges}
 
-fine : Accepted smallBook 130
-fine = accepted smallBook 130 0 (ap (λ a. a .number) (literal .accepts 0))
+fine : Accepted small-book 130
+fine = accepted small-book 130 0 (ap (λ a. a .number) (literal .accepts 0))
 
-accepts-it : acceptOf smallBook 130 7 ≡ record { number = 0; count = 1; note = 2; named = 0 }
+accepts-it : acceptOf small-book 130 7 ≡ record { number = 0; count = 1; note = 2; named = 0 }
 unfolding describeIn describeAt wrongTrailer stands numberAt
-accepts-it = accepts smallBook 130 7 fine
+accepts-it = accepts small-book 130 7 fine
 
-reads-it : readOf smallBook 130 0 ≡ record { number = 0; fields = cable ++ (rateOf cable .number ∷ rateOf cable .rating ∷ []) }
+reads-it : readOf small-book 130 0 ≡ record { number = 0; fields = cable ++ (rateOf cable .number ∷ rateOf cable .rating ∷ []) }
 unfolding describeIn describeAt wrongTrailer stands casesAt wordsAt numberAt
-reads-it = cases-as-read smallBook 130 fine 0 (lit< tt)
+reads-it = cases-as-read small-book 130 fine 0 (lit< tt)
 
 -- Built again in a buffer as long, with the note at its front.
 
 built-again :
-    let d = describe smallBook 130 in
-    build (79 ∷ 75 ∷ replicate 128 0) (d .first) (casesAt rbk1 smallBook (d .first) (d .count))
-    ≡ record { number = 0; used = 130; bytes = take 130 smallBook }
+    let d = describe small-book 130 in
+    build (79 ∷ 75 ∷ replicate 128 0) (d .first) (casesAt rbk1 small-book (d .first) (d .count))
+    ≡ record { number = 0; used = 130; bytes = take 130 small-book }
 unfolding describeIn describeAt wrongTrailer stands numberAt below
-built-again = rebuilt-whole smallBook 130 refl fine (79 ∷ 75 ∷ replicate 128 0) refl refl
+built-again = rebuilt-whole small-book 130 refl fine (79 ∷ 75 ∷ replicate 128 0) refl refl
 
 -- Demand 3 of the record.
 
 under : exactRise cable chosen (whole 457106) ≤F whole (permittedOf cable)
 unfolding describeIn describeAt wrongTrailer stands wordsAt numberAt
-under = safe smallBook 130 fine 0 (lit< tt) refl chosen chosen-allowed
+under = safe small-book 130 fine 0 (lit< tt) refl chosen chosen-allowed
 
 over : whole (permittedOf cable) <F exactRise cable chosen (whole 457108)
 unfolding describeIn describeAt wrongTrailer stands wordsAt numberAt
-over = close smallBook 130 fine 0 (lit< tt) refl chosen chosen-allowed
+over = close small-book 130 fine 0 (lit< tt) refl chosen chosen-allowed
 
 -- The cable and the case of 26 zeros, appended after a note of two bytes.
 
@@ -91,16 +91,16 @@ read-back = kept (replicate 250 7) 2 two-cases are-cases not-refused
 
 -- Appended to a fresh book, to the book which that left, and both at once.
 
-fresh-fine : Accepted (freshBook 224) 18
+fresh-fine : Accepted (fresh-book 224) 18
 unfolding describeIn describeAt wrongTrailer stands allAgree numberAt
 fresh-fine = record { trailer-right = refl; all-agree = refl }
 
 abbrev one-record : List ℕ
-one-record = appendOf (freshBook 224) 18 cable .bytes
+one-record = appendOf (fresh-book 224) 18 cable .bytes
 
-first-record : Appended (freshBook 224) 18 cable (appendOf (freshBook 224) 18 cable)
+first-record : Appended (fresh-book 224) 18 cable (appendOf (fresh-book 224) 18 cable)
 unfolding allCases appendIn appendAfter onBookIn describeIn describeAt wrongTrailer stands numberAt below
-first-record = appended (freshBook 224) 18 refl fresh-fine cable refl refl
+first-record = appended (fresh-book 224) 18 refl fresh-fine cable refl refl
 
 second-record : Appended one-record 130 (replicate 26 0) (appendOf one-record 130 (replicate 26 0))
 unfolding allCases appendIn appendAfter onBookIn describeIn describeAt wrongTrailer stands numberAt below splice fieldsOf recordBytes
@@ -110,11 +110,11 @@ second-record =
     (replicate 26 0) refl refl
 
 both-records :
-    let book : Written = record { number = 0; used = 18; bytes = freshBook 224 } in
-    Kept (freshBook 224) 2 two-cases (appendAll rbk1 book two-cases)
+    let book : Written = record { number = 0; used = 18; bytes = fresh-book 224 } in
+    Kept (fresh-book 224) 2 two-cases (appendAll rbk1 book two-cases)
 unfolding appendAll appendIn appendAfter onBookIn describeIn describeAt wrongTrailer stands numberAt casesAt below splice fieldsOf
     recordBytes wordsBytes numberBytes trailerBytes
-both-records = all-appended (freshBook 224) 18 refl fresh-fine two-cases are-cases refl
+both-records = all-appended (fresh-book 224) 18 refl fresh-fine two-cases are-cases refl
 
 -- Refused by 24, by 24, by 26 and by 23.
 
@@ -124,11 +124,11 @@ not-none is none = suc-ne-zero _ (sym is ∙ none)
 start-left : startOf (replicate 17 7) 2 ≡ record { number = 24; used = 0; bytes = replicate 17 7 }
 start-left = start-refused (replicate 17 7) 2 (not-none (ap (λ w. w .number) (edges .start-short)))
 
-append-left : Unwritten (freshBook 111) (appendOf (freshBook 111) 18 cable)
-append-left = append-refused (freshBook 111) 18 cable (not-none (ap (λ w. w .number) (edges .append-short cable)))
+append-left : Unwritten (fresh-book 111) (appendOf (fresh-book 111) 18 cable)
+append-left = append-refused (fresh-book 111) 18 cable (not-none (ap (λ w. w .number) (edges .append-short cable)))
 
-read-left : Unread 28 (readOf smallBook 130 1)
-read-left = read-refused smallBook 130 1 (not-none (ap (λ f. f .number) (edges .index-at-count)))
+read-left : Unread 28 (readOf small-book 130 1)
+read-left = read-refused small-book 130 1 (not-none (ap (λ f. f .number) (edges .index-at-count)))
 
-accept-left : Unaccepted 1 (acceptOf (set smallBook 113 147) 130 1)
-accept-left = accept-refused (set smallBook 113 147) 130 1 (not-none (ap (λ a. a .number) (edges .rating-changed 1)))
+accept-left : Unaccepted 1 (acceptOf (set small-book 113 147) 130 1)
+accept-left = accept-refused (set small-book 113 147) 130 1 (not-none (ap (λ a. a .number) (edges .rating-changed 1)))

@@ -24,8 +24,8 @@ use Rattle.book_laws.specs.Book.{describe, startOf, appendOf, readOf, ac
 
 -- The page's small book: the note 'OK' and the cable. From 106 on stands the answer, from 110 the rating, from 114 the trailer: the mark,
 -- from 118 the count, from 122 the distance, from 126 the record length.
-abbrev pub smallBook : List ℕ
-smallBook =
+abbrev pub small-book : List ℕ
+small-book =
     79 ∷ 75
     ∷ 0 ∷ 0 ∷ 0 ∷ 5 ∷ 0 ∷ 0 ∷ 0 ∷ 1 ∷ 0 ∷ 0 ∷ 19 ∷ 136 ∷ 0 ∷ 0 ∷ 33 ∷ 52 ∷ 0 ∷ 0 ∷ 5 ∷ 220 ∷ 0 ∷ 1 ∷ 228 ∷ 96 ∷ 0 ∷ 0 ∷ 5 ∷ 170
     ∷ 0 ∷ 0 ∷ 16 ∷ 104 ∷ 0 ∷ 0 ∷ 6 ∷ 214 ∷ 0 ∷ 0 ∷ 14 ∷ 16 ∷ 0 ∷ 0 ∷ 74 ∷ 56 ∷ 0 ∷ 0 ∷ 1 ∷ 94 ∷ 0 ∷ 0 ∷ 3 ∷ 232 ∷ 0 ∷ 0 ∷ 15 ∷ 160
@@ -34,12 +34,12 @@ smallBook =
     ∷ 82 ∷ 66 ∷ 75 ∷ 49 ∷ 0 ∷ 0 ∷ 0 ∷ 1 ∷ 0 ∷ 0 ∷ 0 ∷ 112 ∷ 0 ∷ 0 ∷ 0 ∷ 112 ∷ []
 
 -- the trailer of a book without records
-abbrev noRecords : List ℕ
-noRecords = 82 ∷ 66 ∷ 75 ∷ 49 ∷ 0 ∷ 0 ∷ 0 ∷ 0 ∷ 0 ∷ 0 ∷ 0 ∷ 0 ∷ 0 ∷ 0 ∷ 0 ∷ 112 ∷ []
+abbrev no-records : List ℕ
+no-records = 82 ∷ 66 ∷ 75 ∷ 49 ∷ 0 ∷ 0 ∷ 0 ∷ 0 ∷ 0 ∷ 0 ∷ 0 ∷ 0 ∷ 0 ∷ 0 ∷ 0 ∷ 112 ∷ []
 
 -- a book without records after the note, and n bytes behind
-abbrev pub freshBook : ℕ → List ℕ
-freshBook n = 79 ∷ 75 ∷ noRecords ++ replicate n 7
+abbrev pub fresh-book : ℕ → List ℕ
+fresh-book n = 79 ∷ 75 ∷ no-records ++ replicate n 7
 
 -- 26 numbers whose bytes are 1 to 104
 abbrev numbered : List ℕ
@@ -50,11 +50,11 @@ numbered =
 
 pub record Literal : Type 0 where
   -- The small book.
-  pub started : startOf (79 ∷ 75 ∷ replicate 128 7) 2 ≡ record { number = 0; used = 18; bytes = freshBook 112 }
-  pub appended : appendOf (freshBook 113) 18 cable ≡ record { number = 0; used = 130; bytes = smallBook ++ (7 ∷ []) }
-  pub described : describe smallBook 130 ≡ record { number = 0; count = 1; first = 2 }
-  pub reads : readOf smallBook 130 0 ≡ record { number = 0; fields = cable ++ (0 ∷ 457106 ∷ []) }
-  pub accepts : (k : ℕ) → acceptOf smallBook 130 k ≡ record { number = 0; count = 1; note = 2; named = 0 }
+  pub started : startOf (79 ∷ 75 ∷ replicate 128 7) 2 ≡ record { number = 0; used = 18; bytes = fresh-book 112 }
+  pub appended : appendOf (fresh-book 113) 18 cable ≡ record { number = 0; used = 130; bytes = small-book ++ (7 ∷ []) }
+  pub described : describe small-book 130 ≡ record { number = 0; count = 1; first = 2 }
+  pub reads : readOf small-book 130 0 ≡ record { number = 0; fields = cable ++ (0 ∷ 457106 ∷ []) }
+  pub accepts : (k : ℕ) → acceptOf small-book 130 k ≡ record { number = 0; count = 1; note = 2; named = 0 }
   -- A trailer, and a record field by field.
   pub trailer : trailerBytes rbk1 2 ≡ 82 ∷ 66 ∷ 75 ∷ 49 ∷ 0 ∷ 0 ∷ 0 ∷ 2 ∷ 0 ∷ 0 ∷ 0 ∷ 224 ∷ 0 ∷ 0 ∷ 0 ∷ 112 ∷ []
   pub fields :
@@ -70,13 +70,13 @@ pub record Literal : Type 0 where
 -- The refusals, each at its edge and just not given.
 pub record Edges : Type 0 where
   -- 20: the used length exceeds the buffer by one, where it does not the book is described; before 21.
-  pub length-over : describe smallBook 131 ≡ record { number = 20; count = 0; first = 0 }
+  pub length-over : describe small-book 131 ≡ record { number = 20; count = 0; first = 0 }
   pub length-before-mark : describe [] 1 ≡ record { number = 20; count = 0; first = 0 }
   -- 21: too short by one, long enough, and a mark of which one byte is wrong; before 22.
-  pub too-short : describe noRecords 15 ≡ record { number = 21; count = 0; first = 0 }
-  pub long-enough : describe noRecords 16 ≡ record { number = 0; count = 0; first = 0 }
-  pub mark-wrong : describe (set smallBook 117 50) 130 ≡ record { number = 21; count = 0; first = 0 }
-  pub mark-before-trailer : describe (set (set smallBook 117 50) 121 2) 130 ≡ record { number = 21; count = 0; first = 0 }
+  pub too-short : describe no-records 15 ≡ record { number = 21; count = 0; first = 0 }
+  pub long-enough : describe no-records 16 ≡ record { number = 0; count = 0; first = 0 }
+  pub mark-wrong : describe (set small-book 117 50) 130 ≡ record { number = 21; count = 0; first = 0 }
+  pub mark-before-trailer : describe (set (set small-book 117 50) 121 2) 130 ≡ record { number = 21; count = 0; first = 0 }
   -- 22, by the bytes before the trailer, the count, the distance and the record length.
   pub most : wrongTrailer rbk1 11200000 100000 11200000 112 ≡ false
   pub too-many : wrongTrailer rbk1 11200112 100001 11200112 112 ≡ true
@@ -85,37 +85,37 @@ pub record Edges : Type 0 where
   pub length-wrong : wrongTrailer rbk1 11200000 100000 11200000 111 ≡ true
   pub records-too-long : wrongTrailer rbk1 11199999 100000 11200000 112 ≡ true
   -- 22, by the bytes: the count, the distance, the record length, and no note before the records, then one byte of them missing.
-  pub count-byte : describe (set smallBook 121 2) 130 ≡ record { number = 22; count = 0; first = 0 }
-  pub distance-byte : describe (set smallBook 125 111) 130 ≡ record { number = 22; count = 0; first = 0 }
-  pub length-byte : describe (set smallBook 129 111) 130 ≡ record { number = 22; count = 0; first = 0 }
-  pub no-note : describe (drop 2 smallBook) 128 ≡ record { number = 0; count = 1; first = 0 }
-  pub byte-missing : describe (drop 3 smallBook) 127 ≡ record { number = 22; count = 0; first = 0 }
+  pub count-byte : describe (set small-book 121 2) 130 ≡ record { number = 22; count = 0; first = 0 }
+  pub distance-byte : describe (set small-book 125 111) 130 ≡ record { number = 22; count = 0; first = 0 }
+  pub length-byte : describe (set small-book 129 111) 130 ≡ record { number = 22; count = 0; first = 0 }
+  pub no-note : describe (drop 2 small-book) 128 ≡ record { number = 0; count = 1; first = 0 }
+  pub byte-missing : describe (drop 3 small-book) 127 ≡ record { number = 22; count = 0; first = 0 }
   -- 23: a rating or an answer changed by one.
-  pub rating-changed : (k : ℕ) → acceptOf (set smallBook 113 147) 130 k ≡ record { number = 23; count = 0; note = 0; named = k }
-  pub answer-changed : (k : ℕ) → acceptOf (set smallBook 109 1) 130 k ≡ record { number = 23; count = 0; note = 0; named = k }
+  pub rating-changed : (k : ℕ) → acceptOf (set small-book 113 147) 130 k ≡ record { number = 23; count = 0; note = 0; named = k }
+  pub answer-changed : (k : ℕ) → acceptOf (set small-book 109 1) 130 k ≡ record { number = 23; count = 0; note = 0; named = k }
   -- 24: one byte too short, and exactly enough.
   pub start-short : startOf (replicate 17 7) 2 ≡ record { number = 24; used = 0; bytes = replicate 17 7 }
-  pub start-enough : startOf (79 ∷ 75 ∷ replicate 16 7) 2 ≡ record { number = 0; used = 18; bytes = freshBook 0 }
-  pub append-short : (x : List ℕ) → appendOf (freshBook 111) 18 x ≡ record { number = 24; used = 0; bytes = freshBook 111 }
-  pub append-enough : appendOf (freshBook 112) 18 cable ≡ record { number = 0; used = 130; bytes = smallBook }
+  pub start-enough : startOf (79 ∷ 75 ∷ replicate 16 7) 2 ≡ record { number = 0; used = 18; bytes = fresh-book 0 }
+  pub append-short : (x : List ℕ) → appendOf (fresh-book 111) 18 x ≡ record { number = 24; used = 0; bytes = fresh-book 111 }
+  pub append-enough : appendOf (fresh-book 112) 18 cable ≡ record { number = 0; used = 130; bytes = small-book }
   -- 25: at the most records and one below; before 24.
   pub full :
       (x : List ℕ) →
-      appendAfter rbk1 (record { number = 0; count = 100000; first = 0 }) (freshBook 112) 18 x
-      ≡ record { number = 25; used = 0; bytes = freshBook 112 }
-  pub not-full : (x : List ℕ) → appendAfter rbk1 (record { number = 0; count = 99999; first = 0 }) (freshBook 112) 18 x .number ≡ 0
+      appendAfter rbk1 (record { number = 0; count = 100000; first = 0 }) (fresh-book 112) 18 x
+      ≡ record { number = 25; used = 0; bytes = fresh-book 112 }
+  pub not-full : (x : List ℕ) → appendAfter rbk1 (record { number = 0; count = 99999; first = 0 }) (fresh-book 112) 18 x .number ≡ 0
   pub full-before-space :
       (x : List ℕ) →
-      appendAfter rbk1 (record { number = 0; count = 100000; first = 0 }) (freshBook 111) 18 x
-      ≡ record { number = 25; used = 0; bytes = freshBook 111 }
+      appendAfter rbk1 (record { number = 0; count = 100000; first = 0 }) (fresh-book 111) 18 x
+      ≡ record { number = 25; used = 0; bytes = fresh-book 111 }
   -- 26: at the count, where one below it is read.
-  pub index-at-count : readOf smallBook 130 1 ≡ record { number = 26; fields = replicate 28 0 }
+  pub index-at-count : readOf small-book 130 1 ≡ record { number = 26; fields = replicate 28 0 }
   -- 22 before each operation's own.
   pub trailer-before-space :
-      (x : List ℕ) → appendOf (set smallBook 121 2) 130 x ≡ record { number = 22; used = 0; bytes = set smallBook 121 2 }
-  pub trailer-before-index : readOf (set smallBook 121 2) 130 2 ≡ record { number = 22; fields = replicate 28 0 }
+      (x : List ℕ) → appendOf (set small-book 121 2) 130 x ≡ record { number = 22; used = 0; bytes = set small-book 121 2 }
+  pub trailer-before-index : readOf (set small-book 121 2) 130 2 ≡ record { number = 22; fields = replicate 28 0 }
   pub trailer-before-record :
-      (k : ℕ) → acceptOf (set (set smallBook 121 2) 113 147) 130 k ≡ record { number = 22; count = 0; note = 0; named = 0 }
+      (k : ℕ) → acceptOf (set (set small-book 121 2) 113 147) 130 k ≡ record { number = 22; count = 0; note = 0; named = 0 }
 
 -- `rateOf` is shut, so that the cable's answer n and its rating i come from its theorem.
 
@@ -123,7 +123,7 @@ pub record Edges : Type 0 where
 abbrev recorded : (behind n i : ℕ) → Written
 recorded behind n i =
     let bytes = wordsBytes (cable ++ (n ∷ i ∷ [])) ++ trailerBytes rbk1 1 in
-    record { number = 0; used = 130; bytes = splice (freshBook behind) 2 bytes }
+    record { number = 0; used = 130; bytes = splice (fresh-book behind) 2 bytes }
 
 -- what accept answers where the record has this number and this rating
 abbrev judged : (k number rating n i : ℕ) → Acceptance

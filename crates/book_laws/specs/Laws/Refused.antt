@@ -45,7 +45,7 @@ module _ (l : Layout) (b : List ℕ) where
   unfolding startIn unwritten
   startIn-refused note =
       either (λ (w : Written). (w .number ≡ 0 → ⊥) → w ≡ record { number = 24; used = 0; bytes = b })
-      (ltb (length b) (note + trailerLength l)) _ _
+      (ltb (length b) (note + trailerLength l)) (unwritten 24 b) _
       (λ given. refl)
       (λ given. absurd (given refl))
 

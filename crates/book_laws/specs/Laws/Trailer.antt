@@ -1,13 +1,13 @@
 -- What a trailer that is not refused says: the places of the records, and the trailer's own numbers. Assumes nothing.
 use mathlib.Core.Bool.{Bool, true, false, cond, not}
 use mathlib.Core.List.{List}
-use mathlib.Core.Path.{_≡_, sym, ap, _∙_}
+use mathlib.Core.Path.{_≡_, refl, sym, ap, _∙_}
 use Prim.Native.Nat.{ℕ, _+_, _-_, _*_, _≤_}
 use native.Mathlib.Nat.{suc-ne-zero}
 use native.Mathlib.Omega.{arith}
 use lib.Dec.{eqb, ltb, lit≤}
 use lib.ListN.{length}
-use borrow.Author.Tests.{ltb-false, eqb-true, not-false, eq-eqb, ne-eqb}
+use borrow.Author.Tests.{ltb-false, eqb-true, eqb-false, not-false, eq-eqb, ne-eqb}
 use Rattle.bools.specs.Laws.Tests.{neither, passed}
 use Rattle.book_laws.specs.Bytes.{stands}
 use Rattle.book_laws.specs.Layout.{Layout, recordLength, trailerLength}
@@ -104,11 +104,23 @@ module _ {A : Type 0} (l : Layout) (b : List ℕ) (used : ℕ) (refuse : ℕ →
   unfolding onBookIn
   onBook-refused given = rw (← is) (simp (ne-eqb _ _ given))
 
--- what holds of each refusal by the trailer and of what follows it
+-- what holds of a refusal by the trailer, where it is given, and of what follows, where it is not
+pub onBook-by :
+    {A : Type 0} (P : A → Type 0) (l : Layout) (b : List ℕ) (used : ℕ) (refuse : ℕ → A) (go-on : Description → A) →
+    (describeIn l b used .number ≡ 0 → P (go-on (describeIn l b used))) →
+    ((describeIn l b used .number ≡ 0 → ⊥) → P (refuse (describeIn l b used .number))) → P (onBookIn l b used refuse go-on)
+unfolding onBookIn
+onBook-by P l b used refuse go-on of-next of-refusal = by-test (eqb (describeIn l b used .number) 0) refl
+  where
+    by-test :
+        (none : Bool) → eqb (describeIn l b used .number) 0 ≡ none →
+        P (cond none (go-on (describeIn l b used)) (refuse (describeIn l b used .number)))
+    by-test true t = of-next (eqb-true _ 0 t)
+    by-test false t = of-refusal (eqb-false _ 0 t)
+
+-- what holds of each refusal by the trailer and of what follows
 pub onBook-each :
     {A : Type 0} (P : A → Type 0) (l : Layout) (b : List ℕ) (used : ℕ) (refuse : ℕ → A) (go-on : Description → A) →
     P (refuse 0) → P (refuse 20) → P (refuse 21) → P (refuse 22) → P (go-on (describeIn l b used)) → P (onBookIn l b used refuse go-on)
-unfolding onBookIn
 onBook-each P l b used refuse go-on none is-20 is-21 is-22 own =
-    let d = describeIn l b used in
-    either P (eqb (d .number) 0) _ _ own (describe-number (λ n. P (refuse n)) none is-20 is-21 is-22 l b used)
+    onBook-by P l b used refuse go-on (λ e. own) (λ given. describe-number (λ n. P (refuse n)) none is-20 is-21 is-22 l b used)

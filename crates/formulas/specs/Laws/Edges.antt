@@ -1,6 +1,6 @@
--- The starred values at the edges of docs/CLAIMS.md, as one theorem, and as another edges that the stars leave out: refusal 8 where
--- kp decides, refusal 11, and the ends of a logarithm whose powers are rounded. Each is computed from the definition or the table
--- that the rating uses. Assumes nothing.
+-- The starred values at the edges of docs/CLAIMS.md, as one theorem, and as another the edges of refusals 8 and 11 that the stars
+-- leave out: where kp decides, and the largest rating. Each is computed from the definition or the table that the rating uses.
+-- Assumes nothing.
 use mathlib.Core.Path.{_≡_, refl}
 use mathlib.Core.Bool.{Bool, true, false}
 use Prim.Native.Nat.{ℕ, _*_}
@@ -69,7 +69,7 @@ starred =
     }
 
 pub record Unstarred : Type 0 where
-  -- refusal 8: either z at the limit passes, either above it is refused
+  -- refusal 8: both z at the limit pass, and either of them above it is refused
   pub both-z-pass-8 : skinRefused 7840000000000 7840000000000 ≡ false
   pub zs-gets-8 : skinRefused 7840000000001 7840000000000 ≡ true
   pub zp-gets-8 : skinRefused 7840000000000 7840000000001 ≡ true
@@ -82,13 +82,9 @@ pub record Unstarred : Type 0 where
   -- with E at 10^11, the largest N whose rating passes, and the next N
   pub rating-passes-11 : currentRefused (rating 250000100000 100000000000) ≡ false
   pub rating-gets-11 : currentRefused (rating 250000100001 100000000000) ≡ true
-  -- the ends for 3/2: the first powers are exact, the later ones and most terms are rounded
-  pub log3over2-low : logLow 3 2 ≡ 405465108105
-  pub log3over2-high : logHigh 3 2 ≡ 405465108117
 
 pub unstarred : Unstarred
-unfolding up down root tera piHigh ln2Low ln2High skinReactance skinRatio octaves doubled firstPower thirteenTerms logLow logHigh
-    rating skinRefused currentRefused
+unfolding up down root tera piHigh skinReactance skinRatio rating skinRefused currentRefused
 unstarred =
     record {
       both-z-pass-8 = refl;
@@ -100,6 +96,4 @@ unstarred =
       gets-11 = refl;
       rating-passes-11 = refl;
       rating-gets-11 = refl;
-      log3over2-low = refl;
-      log3over2-high = refl;
     }

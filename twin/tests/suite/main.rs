@@ -5,9 +5,9 @@
 
 mod agreement;
 mod book;
-mod cases;
 mod drawn_books;
 mod drawn_lines;
+mod edge_cases;
 mod edges;
 mod exact;
 mod lines;

@@ -6,6 +6,7 @@
 mod agreement;
 mod book;
 mod drawn_books;
+mod drawn_cases;
 mod drawn_lines;
 mod edge_cases;
 mod edges;

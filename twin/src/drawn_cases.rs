@@ -133,7 +133,7 @@ pub fn near_limit(dice: &mut Dice) -> Words {
 const TURNS: [(u32, usize); 4] = [(8, 5), (9, 15), (10, 10), (11, 5)];
 
 /// A sound case in which no other refusal is likely to stand before the one
-/// that is wanted: no dielectric loss, and for 5000 A small resistances.
+/// that is wanted: no voltage, and for 5000 A small thermal resistances.
 fn sound_case_for(refusal: u32, dice: &mut Dice) -> Words {
     let mut case = sound_case(dice);
     case[10] = 0;

@@ -1,5 +1,5 @@
-// The refusals 1 to 11: each by itself, at the edges of its condition, and in
-// pairs, where the smaller number must win.
+// The refusals 1 to 11: each by itself, and at the edges of its condition with
+// the numbers as document 01 has them.
 
 use twin::edge_cases::pairs::BRINGS;
 use twin::rating::{current_refused, rate, Rated, Words};
@@ -29,16 +29,6 @@ fn every_base_is_rated() {
 fn each_refusal_by_itself() {
     for (number, changes) in BRINGS {
         refused_with(&with(&TREFOIL_SINGLE_POINT, changes), number);
-    }
-}
-
-#[test]
-fn the_smaller_of_two_wins() {
-    for (index, (smaller, first)) in BRINGS.into_iter().enumerate() {
-        for (_, second) in &BRINGS[index + 1..] {
-            let case = with(&with(&TREFOIL_SINGLE_POINT, second), first);
-            refused_with(&case, smaller);
-        }
     }
 }
 

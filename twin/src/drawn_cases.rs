@@ -1,8 +1,11 @@
 // Cases made by dice: sound ones, sound ones with some words replaced, a
-// mixture of rated and refused ones for the records of a book, and rated ones.
+// mixture of rated and refused ones for the records of a book, rated ones, and
+// ones at the edge of a limit or of a refusal.
 
 use crate::dice::Dice;
-use crate::rating::{limits, rate, Rated, Words};
+use crate::rating::{holds, limits, rate, Rated, Words};
+use crate::sample_cables::with;
+use crate::turning::first;
 
 /// Fields 17 to 21 of an SL cable, past every refusal of them.
 fn sound_armour(dice: &mut Dice, theta_c: i64) -> [i64; 5] {
@@ -125,16 +128,50 @@ pub fn near_limit(dice: &mut Dice) -> Words {
     case
 }
 
+/// Refusals 8 to 11, each with a field that brings it about or ends it: R0 for
+/// the skin and the current, the sheath's resistance, the voltage.
+const TURNS: [(u32, usize); 4] = [(8, 5), (9, 15), (10, 10), (11, 5)];
+
+/// A sound case in which no other refusal is likely to stand before the one
+/// that is wanted: no voltage, and for 5000 A small thermal resistances.
+fn sound_case_for(refusal: u32, dice: &mut Dice) -> Words {
+    let mut case = sound_case(dice);
+    case[10] = 0;
+    if refusal == 11 {
+        let highest = [20000, 5000, 5000, 30000];
+        for (field, highest) in (22..).zip(highest) {
+            case[field] = dice.between(limits(field).0, highest) as u32;
+        }
+    }
+    case
+}
+
+/// A case on one side or the other of where one of refusals 8 to 11 begins to
+/// hold or ends, by the smallest step of a field. Only few cases that are drawn
+/// otherwise come near 5000 A or the limit of the skin effect.
+pub fn at_turn(dice: &mut Dice) -> Words {
+    loop {
+        let (refusal, field) = TURNS[dice.roll() as usize % TURNS.len()];
+        let case = sound_case_for(refusal, dice);
+        let at_low = holds(refusal, &with(&case, &[(field, limits(field).0 as u32)]));
+        if let Some(mut turned) = first(&case, field, |case| holds(refusal, case) != at_low) {
+            turned[field] -= dice.roll() as u32 % 2;
+            return turned;
+        }
+    }
+}
+
 /// The case of a number, counted from 0: every kind in turn.
 pub fn drawn_case(dice: &mut Dice, number: usize) -> Words {
-    match number % 5 {
+    match number % 6 {
         0 => rated_case(dice).0,
         1 => sound_case(dice),
         2 => mixed_case(dice),
         3 => near_limit(dice),
+        4 => at_turn(dice),
         _ => {
             let mut case = sound_case(dice);
-            disturb(&mut case, 1 + number / 5 % 26, dice);
+            disturb(&mut case, 1 + number / 6 % 26, dice);
             case
         }
     }

@@ -4,10 +4,12 @@
 
 pub mod big;
 pub mod book;
+pub mod cable;
 pub mod dice;
 pub mod drawn_books;
 pub mod drawn_cases;
 pub mod drawn_lines;
+pub mod edge_cases;
 pub mod ends;
 pub mod exact_rise;
 pub mod figure;
@@ -17,7 +19,9 @@ pub mod listing;
 pub mod margins;
 pub mod published;
 pub mod rating;
+pub mod sample_cables;
 pub mod stages;
 pub mod standard;
 pub mod tables;
+pub mod turning;
 pub mod whole;

@@ -2,7 +2,8 @@
 // in mA and the sheet. Refusals 1 to 7 are decided on the words alone; only a
 // case that passes them reaches a stage, so the stages see fields in limits.
 
-use crate::stages::{self, Insulation, Thermal};
+use crate::cable::Cable;
+use crate::stages;
 use crate::tables;
 
 /// What a case gets: answer 0 and its rating, or a refusal number and zeros.
@@ -17,8 +18,9 @@ pub struct Rated {
 pub type Words = [u32; 26];
 
 const ARMOUR_FIELDS: std::ops::RangeInclusive<usize> = 17..=21;
-const SKIN_LIMIT: u128 = 7_840_000_000_000;
-const CURRENT_LIMIT: u128 = 5_000_000;
+/// The largest z that passes refusal 8, and the largest rating that passes 11.
+pub const SKIN_LIMIT: u128 = 7_840_000_000_000;
+pub const CURRENT_LIMIT: u128 = 5_000_000;
 
 /// Lowest and highest permitted value of fields 2 to 25, in their order.
 const LIMITS: [(i64, i64); 24] = [
@@ -65,7 +67,8 @@ pub fn value(case: &Words, field: usize) -> i64 {
     }
 }
 
-fn armoured(case: &Words) -> bool {
+/// Only the SL cable has armour.
+pub fn armoured(case: &Words) -> bool {
     case[0] == 5
 }
 
@@ -147,164 +150,71 @@ pub fn current_refused(current: u128) -> bool {
     current > CURRENT_LIMIT
 }
 
-/// A case that passed refusals 1 to 7, with the resistances of stage 1 and the
-/// two ends of B worked out.
-struct Cable<'a> {
-    words: &'a Words,
-    rc: u128,
-    rs: u128,
-    ra: u128,
-    b_high: u128,
-    b_low: u128,
+// Each of refusals 8 to 11 of a cable, by itself.
+
+fn skin_holds(cable: &Cable) -> bool {
+    cable.skin_arguments().into_iter().any(skin_refused)
 }
 
-impl Cable<'_> {
-    fn of(words: &Words) -> Cable<'_> {
-        let conductor = tables::conductor_coefficient(words[1]);
-        let sheath = tables::metal_coefficient(words[14]);
-        let frequency = u128::from(words[2]);
-        let mut cable = Cable {
-            words,
-            rc: stages::resistance(u128::from(words[5]), conductor, value(words, 3)),
-            rs: stages::resistance(u128::from(words[15]), sheath, value(words, 16)),
-            ra: 0,
-            b_high: stages::reactance_unit_high(frequency),
-            b_low: stages::reactance_unit_low(frequency),
-        };
-        if armoured(words) {
-            let armour = tables::metal_coefficient(words[17]);
-            cable.ra = stages::resistance(u128::from(words[18]), armour, value(words, 19));
-        }
-        cable
-    }
+fn eddy_holds(cable: &Cable) -> bool {
+    cable.bonded_at_one_point() && eddy_refused(cable.b_high, cable.rs)
+}
 
-    fn field(&self, index: usize) -> u128 {
-        u128::from(self.words[index])
-    }
+fn dielectric_holds(cable: &Cable) -> bool {
+    dielectric_refused(cable.dielectric().1, cable.rise())
+}
 
-    /// Hundredths of a degree between conductor and ambient: at least 500,
-    /// since refusal 6 has been tried.
-    fn rise(&self) -> u128 {
-        u128::from((value(self.words, 3) - value(self.words, 4)).unsigned_abs())
-    }
+fn current_holds(cable: &Cable) -> bool {
+    cable.current().is_some_and(current_refused)
+}
 
-    fn thermal(&self) -> Thermal {
-        Thermal {
-            t1: self.field(22),
-            t2: self.field(23),
-            t3: self.field(24),
-            t4: self.field(25),
-            cores: if armoured(self.words) { 3 } else { 1 },
-        }
-    }
+const LATE_REFUSALS: [fn(&Cable) -> bool; 4] =
+    [skin_holds, eddy_holds, dielectric_holds, current_holds];
 
-    fn skin_argument(&self, k: u128) -> u128 {
-        let reactance = stages::skin_reactance(self.field(2), k);
-        stages::skin_argument(reactance, self.rc)
+/// Whether the test of a refusal, 1 to 11, holds of a case, whatever the others
+/// say. For 8 to 11 its codes must be in the tables and Di not below ds, and
+/// the fields near enough to their limits that no product overflows.
+pub fn holds(refusal: u32, case: &Words) -> bool {
+    let index = refusal as usize - 1;
+    match EARLY_REFUSALS.get(index) {
+        Some(early) => early(case),
+        None => LATE_REFUSALS[index - EARLY_REFUSALS.len()](&Cable::of(case)),
     }
+}
 
-    /// ys, yp and R, or refusal 8.
-    fn conductor(&self) -> Result<(u128, u128, u128), u32> {
-        let code = self.words[1];
-        let z_skin = self.skin_argument(tables::skin_coefficient(code));
-        let z_proximity = self.skin_argument(tables::proximity_coefficient(code));
-        if skin_refused(z_skin) || skin_refused(z_proximity) {
-            return Err(8);
-        }
-        let ys = stages::skin_factor_of(z_skin);
-        let factor = stages::skin_factor_of(z_proximity);
-        let u = stages::diameter_ratio_squared(self.field(6), self.field(7));
-        let h = stages::proximity_main_term(factor);
-        let g = stages::proximity_small_term(u, factor);
-        let yp = stages::proximity_factor(u, g, h);
-        Ok((ys, yp, stages::ac_resistance(self.rc, ys, yp)))
+fn refuse(number: u32, when: bool) -> Result<(), u32> {
+    if when {
+        Err(number)
+    } else {
+        Ok(())
     }
+}
 
-    /// X and S, or refusal 9. X is 0 where the sheaths are bonded at one point.
-    fn sheath(&self) -> Result<(u128, u128), u32> {
-        match self.words[0] {
-            3 => self.eddy_loss(1),
-            4 => self.eddy_loss(2),
-            5 => {
-                let (x, s) = self.circulating_loss();
-                Ok((x, stages::three_halves(s)))
-            }
-            _ => Ok(self.circulating_loss()),
-        }
-    }
-
-    fn circulating_loss(&self) -> (u128, u128) {
-        let log = stages::spacing_log_high(self.words[0], self.field(7), self.field(13));
-        let x = stages::sheath_reactance_high(self.b_high, log);
-        let v = stages::circulating_ratio_high(x, self.rs);
-        let v2 = stages::circulating_ratio_squared_high(v);
-        (x, stages::circulating_loss(self.rs, v2))
-    }
-
-    fn eddy_loss(&self, trefoils: u128) -> Result<(u128, u128), u32> {
-        if eddy_refused(self.b_high, self.rs) {
-            return Err(9);
-        }
-        let m = stages::eddy_ratio(self.b_high, self.rs);
-        let e_prime = stages::eddy_share(stages::eddy_ratio_squared(m));
-        let g_prime = stages::sheath_ratio_squared(self.field(13), self.field(7));
-        Ok((0, stages::eddy_loss(trefoils, self.rs, e_prime, g_prime)))
-    }
-
-    /// W, which only the SL cable has.
-    fn armour_loss(&self) -> u128 {
-        if !armoured(self.words) {
-            return 0;
-        }
-        let y2 = stages::armour_ratio_squared(stages::armour_ratio(self.ra, self.b_high));
-        let r = stages::armour_reduced_resistance(self.ra, y2);
-        let bare = stages::armour_loss_unscreened(r, self.field(20), self.field(21));
-        let log = stages::spacing_log_low(self.words[0], self.field(7), self.field(13));
-        let x_low = stages::sheath_reactance_low(self.b_low, log);
-        let v = stages::circulating_ratio_low(x_low, self.rs);
-        stages::armour_loss_screened(bare, stages::circulating_ratio_squared_low(v))
-    }
-
-    /// Wd and dd, or refusal 10.
-    fn dielectric(&self) -> Result<(u128, u128), u32> {
-        let insulation = Insulation {
-            permittivity: self.field(11),
-            volts: self.field(10),
-            loss_factor: self.field(12),
-            log_low: stages::log_low(self.field(9), self.field(8)),
-        };
-        let wd = stages::dielectric_loss(&insulation, self.b_high);
-        let dd = stages::dielectric_rise(wd, &self.thermal());
-        if dielectric_refused(dd, self.rise()) {
-            return Err(10);
-        }
-        Ok((wd, dd))
-    }
-
-    /// The rating and the sheet, or the lowest of refusals 8 to 11.
-    fn rate(&self) -> Result<(u32, [u64; 13]), u32> {
-        let (ys, yp, r) = self.conductor()?;
-        let (x, s) = self.sheath()?;
-        let w = self.armour_loss();
-        let (wd, dd) = self.dielectric()?;
-        let n_left = stages::rise_left(self.rise(), dd);
-        let e = stages::effective_resistance(r, s, w, &self.thermal());
-        let current = stages::largest_current(n_left, e);
-        if current_refused(current) {
-            return Err(11);
-        }
-        let sheet = [self.rc, self.rs, self.ra, self.b_high, ys, yp, r, x, s, w, wd, dd, e];
-        // The current is at most 5000000. E is the largest of the sheet and
-        // stays below 10^18 with the fields' limits: no number loses a digit.
-        Ok((current as u32, sheet.map(|number| number as u64)))
-    }
+/// The rating and the sheet, or the lowest of refusals 8 to 11.
+fn rate_cable(cable: &Cable) -> Result<(u32, [u64; 13]), u32> {
+    let z = cable.skin_arguments();
+    refuse(8, z.into_iter().any(skin_refused))?;
+    let (ys, yp, r) = cable.conductor(z);
+    refuse(9, eddy_holds(cable))?;
+    let (x, s) = cable.sheath();
+    let w = cable.armour_loss();
+    let (wd, dd) = cable.dielectric();
+    refuse(10, dielectric_refused(dd, cable.rise()))?;
+    let n_left = stages::rise_left(cable.rise(), dd);
+    let e = stages::effective_resistance(r, s, w, &cable.thermal());
+    let current = stages::largest_current(n_left, e);
+    refuse(11, current_refused(current))?;
+    let sheet = [cable.rc, cable.rs, cable.ra, cable.b_high, ys, yp, r, x, s, w, wd, dd, e];
+    // The current is at most 5000000. E is the largest of the sheet and stays
+    // below 10^18 with the fields' limits: no number loses a digit.
+    Ok((current as u32, sheet.map(|number| number as u64)))
 }
 
 /// Rates a case of any 26 words.
 pub fn rate(case: &Words) -> Rated {
     let result = match early_refusal(case) {
         Some(number) => Err(number),
-        None => Cable::of(case).rate(),
+        None => rate_cable(&Cable::of(case)),
     };
     match result {
         Ok((rating, sheet)) => Rated { answer: 0, rating, sheet },

@@ -1,29 +1,28 @@
 // vectors: writes the input of the program check_vectors (crates/check_vectors/stdin): cases
 // with what they must get, each a line that rate reads and a line that it must
-// print, or a range of the rating in mA. The same cases in every run.
+// print, or a range of the rating in mA. They are the edge cases, drawn ones and
+// the published cables, the same in every run.
 
 use twin::dice::Dice;
 use twin::drawn_cases::drawn_case;
+use twin::edge_cases::groups;
 use twin::lines::{answer_line, case_line};
 use twin::published::published;
 use twin::rating::Words;
 
-const VECTORS: usize = 2500;
+/// How many cases are drawn.
+const DRAWN: usize = 2200;
 
 fn print_vector(case: &Words) {
     println!("{}\n{}", case_line(case), answer_line(case));
 }
 
-/// The first published cable, at a permitted rise that is at refusal 6's limit
-/// or one hundredth of a degree below it.
 fn print_edges() {
-    println!("# A rise of 5 K passes refusal 6, one of 4.99 K does not.");
-    for rise in [500, 499] {
-        let mut case = published()[0].case;
-        case[3] = 4000;
-        case[4] = 4000 - rise;
-        case[16] = 3000;
-        print_vector(&case);
+    for group in groups() {
+        println!("# {}", group.remark);
+        for edge in group.edges {
+            print_vector(&edge.case);
+        }
     }
 }
 
@@ -38,9 +37,9 @@ fn print_published() {
 
 fn main() {
     print_edges();
-    println!("# Cases of every kind.");
+    println!("# Drawn cases of every kind.");
     let mut dice = Dice(2026);
-    for number in 0..VECTORS {
+    for number in 0..DRAWN {
         print_vector(&drawn_case(&mut dice, number));
     }
     print_published();

@@ -1,10 +1,10 @@
 // The whole-number rating against the standard's formulas in floating point:
 // real-looking cases of every arrangement, then many made by dice.
 
-use crate::cases::{with, ALL};
 use twin::dice::Dice;
 use twin::drawn_cases::{disturb, sound_case};
 use twin::rating::{rate, Rated, Words};
+use twin::sample_cables::{with, ALL};
 use twin::standard::Cable;
 
 /// The float rating less the whole one, in mA. The whole one is cautious: it

@@ -2,7 +2,6 @@
 // refusals 20 to 26, each by itself, at the edges of its condition, and in
 // pairs, where the one that is tried first must be given.
 
-use crate::cases::{with, ALL, SL_TYPE, TREFOIL};
 use twin::book::{
     accept, append, case_of, put_word, read, start, Parts, Refusal, ANSWER, GREATEST_COUNT, RATING,
     RECORD_LENGTH, TRAILER_LENGTH,
@@ -11,6 +10,7 @@ use twin::dice::Dice;
 use twin::drawn_books::{drawn_book, sound_book, KINDS};
 use twin::listing::{listing, LONGEST_BOOK};
 use twin::rating::{rate, Words};
+use twin::sample_cables::{with, ALL, SL_TYPE, TREFOIL};
 
 const ZEROS: Words = [0; 26];
 const NOTE: &[u8] = b"RBK1 of the harbour line";

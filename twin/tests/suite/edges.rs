@@ -2,8 +2,8 @@
 // asked of the function that gives it; those that can be reached by a whole
 // case are asked of a case too.
 
-use crate::cases::{with, SL_TYPE, TREFOIL_SINGLE_POINT};
 use twin::rating::{dielectric_refused, eddy_refused, rate, skin_refused};
+use twin::sample_cables::{with, SL_TYPE, TREFOIL_SINGLE_POINT};
 use twin::stages::{self, T};
 use twin::tables;
 

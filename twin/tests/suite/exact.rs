@@ -2,7 +2,6 @@
 // rating hold at the ends of pi, ln 2 and the logarithms and between them, the
 // rounded E and dd are near the exact ones, and the figure shows the distances.
 
-use crate::cases::{ALL, FLAT, SL_TYPE, TREFOIL, TREFOIL_SINGLE_POINT};
 use std::fs;
 use twin::dice::Dice;
 use twin::drawn_cases::rated_case;
@@ -13,6 +12,7 @@ use twin::fraction::Fraction;
 use twin::margins::{distance_under_line, margins, margins_at, Margins};
 use twin::published::published;
 use twin::rating::{rate, Rated, Words};
+use twin::sample_cables::{ALL, FLAT, SL_TYPE, TREFOIL, TREFOIL_SINGLE_POINT};
 use twin::standard::Cable;
 
 const FIGURE: &str = concat!(env!("CARGO_MANIFEST_DIR"), "/../docs/margins.svg");

@@ -1,8 +1,8 @@
 // The line reader's edge cases, through the same function the program uses.
 
-use crate::cases::SL_TYPE;
 use twin::lines::{answer_lines, read_line, Line};
 use twin::rating::{rate, Words};
+use twin::sample_cables::SL_TYPE;
 
 fn answers(input: &[u8]) -> String {
     let mut output = Vec::new();

@@ -1,13 +1,14 @@
-// The twin's tests as one program: document 01's edge values, the refusals,
-// agreement with the standard in floating point and with the published
-// ratings, the bounds by exact fractions, the line reader, and the book with
-// its listing.
+// The twin's tests as one program: document 01's edge values, the refusals and
+// the cases at their edges, agreement with the standard in floating point and
+// with the published ratings, the bounds by exact fractions, the line reader,
+// the book with its listing, and what is drawn.
 
 mod agreement;
 mod book;
-mod cases;
 mod drawn_books;
+mod drawn_cases;
 mod drawn_lines;
+mod edge_cases;
 mod edges;
 mod exact;
 mod lines;

@@ -1,31 +1,15 @@
-// The refusals 1 to 11: each by itself, at the edges of its condition, and in
-// pairs, where the smaller number must win.
+// The refusals 1 to 11: each by itself, and at the edges of its condition with
+// the numbers as document 01 has them.
 
-use crate::cases::{with, ALL, FLAT, FLAT_SINGLE_POINT, SL_TYPE, TREFOIL, TREFOIL_SINGLE_POINT};
+use twin::edge_cases::pairs::BRINGS;
 use twin::rating::{current_refused, rate, Rated, Words};
+use twin::sample_cables::{
+    with, ALL, FLAT, FLAT_SINGLE_POINT, SL_TYPE, TREFOIL, TREFOIL_SINGLE_POINT,
+};
 use twin::standard::Cable;
-
-type Changes = &'static [(usize, u32)];
 
 const COLD: u32 = (-4000i32) as u32;
 const TOO_COLD: u32 = (-4001i32) as u32;
-
-/// Changes to the trefoil bonded at one point that bring about each refusal,
-/// chosen so that they hardly disturb one another. The pairs apply the later
-/// refusal's changes first, so 8's lower R0 stands over 11's.
-const BRINGS: [(u32, Changes); 11] = [
-    (1, &[(0, 6)]),
-    (2, &[(1, 9)]),
-    (3, &[(11, 801)]),
-    (4, &[(17, 1)]),
-    (5, &[(6, 2841)]),
-    (6, &[(16, 8501)]),
-    (7, &[(14, 3)]),
-    (8, &[(5, 5000)]),
-    (9, &[(15, 1000)]),
-    (10, &[(9, 3180), (10, 300_000), (11, 800), (12, 10000)]),
-    (11, &[(4, COLD), (5, 16000), (15, 20_000_000), (22, 1000), (24, 0), (25, 10000)]),
-];
 
 fn refused_with(case: &Words, number: u32) {
     let expected = Rated { answer: number, rating: 0, sheet: [0; 13] };
@@ -45,16 +29,6 @@ fn every_base_is_rated() {
 fn each_refusal_by_itself() {
     for (number, changes) in BRINGS {
         refused_with(&with(&TREFOIL_SINGLE_POINT, changes), number);
-    }
-}
-
-#[test]
-fn the_smaller_of_two_wins() {
-    for (index, (smaller, first)) in BRINGS.into_iter().enumerate() {
-        for (_, second) in &BRINGS[index + 1..] {
-            let case = with(&with(&TREFOIL_SINGLE_POINT, second), first);
-            refused_with(&case, smaller);
-        }
     }
 }
 

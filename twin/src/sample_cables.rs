@@ -1,7 +1,7 @@
-// Cases the tests share: one real-looking cable of each arrangement, and a way
-// to alter some fields of one.
+// One real-looking cable of each arrangement, which the edge cases and the tests
+// alter.
 
-use twin::rating::Words;
+use crate::rating::Words;
 
 /// 500 mm2 copper, lead sheath, 64/110 kV paper, bonded at both ends.
 pub const TREFOIL: Words = [

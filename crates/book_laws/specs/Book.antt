@@ -6,7 +6,7 @@ use Rattle.book_laws.specs.Trailer.{Description, describeIn}
 use Rattle.book_laws.specs.Record.{placeFrom}
 use Rattle.book_laws.specs.Start.{Written, startIn}
 use Rattle.book_laws.specs.Append.{appendIn}
-use Rattle.book_laws.specs.Read.{Fields, readIn}
+use Rattle.book_laws.specs.Read.{Fields, readIn, casesReadIn}
 use Rattle.book_laws.specs.Accept.{Acceptance, acceptIn, AcceptedIn, DiffersIn}
 use Rattle.book_laws.specs.Build.{buildIn}
 use Rattle.book_laws.specs.Built.{builtIn, FitsIn, KeptIn}
@@ -30,6 +30,10 @@ appendOf b used x = appendIn newLayout b used x
 
 abbrev pub readOf : List ℕ → ℕ → ℕ → Fields
 readOf b used index = readIn (layoutOf b used) b used index
+
+-- the cases of a book, as read answers them
+abbrev pub casesOf : List ℕ → ℕ → List (List ℕ)
+casesOf b used = casesReadIn (layoutOf b used) b used (describe b used .count)
 
 -- k is the record that 23 names
 abbrev pub acceptOf : List ℕ → ℕ → ℕ → Acceptance

@@ -1,9 +1,9 @@
 -- docs/BOOK.md, read: the fields of a record by its index from 0, as written, not judged. Assumes nothing.
 use mathlib.Core.Bool.{cond}
-use mathlib.Core.List.{List}
-use Prim.Native.Nat.{ℕ}
+use mathlib.Core.List.{List, [], _∷_, _++_}
+use Prim.Native.Nat.{ℕ, zero, suc}
 use lib.Dec.{leb}
-use lib.ListN.{replicate}
+use lib.ListN.{take, replicate}
 use Rattle.book_laws.specs.Bytes.{wordsAt}
 use Rattle.book_laws.specs.Layout.{Layout, recordFields}
 use Rattle.book_laws.specs.Trailer.{Description, onBookIn}
@@ -24,3 +24,8 @@ readAfter l d b index =
 
 unfoldable pub readIn : Layout → List ℕ → ℕ → ℕ → Fields
 readIn l b used index = onBookIn l b used (unread l) (λ d. readAfter l d b index)
+
+-- the cases of the first n records
+unfoldable pub casesReadIn : Layout → List ℕ → ℕ → ℕ → List (List ℕ)
+casesReadIn l b used zero = []
+casesReadIn l b used (suc n) = casesReadIn l b used n ++ (take (l .inputs) (readIn l b used n .fields) ∷ [])

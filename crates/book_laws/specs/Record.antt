@@ -1,7 +1,7 @@
 -- The records of a book: where record i stands, what its case, answer and rating are, and whether it agrees, that is whether they are the
 -- answer and the rating of its case. Assumes nothing.
 use mathlib.Core.Bool.{Bool, true, _&&_}
-use mathlib.Core.List.{List, [], _∷_, _++_}
+use mathlib.Core.List.{List}
 use Prim.Native.Nat.{ℕ, zero, suc, _+_, _*_}
 use lib.Dec.{eqb}
 use Rattle.book_laws.specs.Bytes.{wordAt, wordsAt}
@@ -32,7 +32,3 @@ agrees l b at =
 unfoldable pub allAgree : Layout → List ℕ → ℕ → ℕ → Bool
 allAgree l b first zero = true
 allAgree l b first (suc n) = allAgree l b first n && agrees l b (placeFrom l first n)
-
-unfoldable pub casesAt : Layout → List ℕ → ℕ → ℕ → List (List ℕ)
-casesAt l b first zero = []
-casesAt l b first (suc n) = casesAt l b first n ++ (caseAt l b (placeFrom l first n) ∷ [])

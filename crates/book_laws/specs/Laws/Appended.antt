@@ -14,10 +14,9 @@ use Rattle.book_laws.specs.Bytes.{below}
 use Rattle.book_laws.specs.Layout.{Layout, recordLength, trailerLength}
 use Rattle.book_laws.specs.Format.{fieldsOf, recordBytes, trailerBytes}
 use Rattle.book_laws.specs.Trailer.{describeIn}
-use Rattle.book_laws.specs.Record.{casesAt}
 use Rattle.book_laws.specs.Start.{Written, unwritten}
 use Rattle.book_laws.specs.Append.{appendAfter, appendIn}
-use Rattle.book_laws.specs.Read.{Fields}
+use Rattle.book_laws.specs.Read.{Fields, casesReadIn}
 use Rattle.book_laws.specs.Accept.{AcceptedIn}
 use Rattle.book_laws.specs.Build.{allCases, appendAll}
 use Rattle.book_laws.specs.Built.{builtIn, FitsIn, KeptIn}
@@ -29,8 +28,8 @@ use Rattle.book_laws.specs.Laws.Record.{recordBytes-bytes}
 use Rattle.book_laws.specs.Laws.Built.{trailerBytes-bytes}
 use Rattle.book_laws.specs.Laws.Build.{allCases-append, appendAll-fits, appendAll-fitted}
 use Rattle.book_laws.specs.Laws.ReadBack.{built-kept}
-use Rattle.book_laws.specs.Laws.Cases.{cases-are, casesAt-length, cases-as-readIn}
-use Rattle.book_laws.specs.Laws.Rebuild.{cases-fit, cases-stand}
+use Rattle.book_laws.specs.Laws.Cases.{casesAt, cases-are, casesAt-length, cases-as-readIn}
+use Rattle.book_laws.specs.Laws.Rebuild.{cases-fit, cases-stand, read-cases}
 
 -- what holds of every byte of the buffer, and of the buffer with the record and the trailer in it, holds after append, refused or not
 append-each :
@@ -67,10 +66,10 @@ module _ {l : Layout} (lawful : Lawful l) (b : List ℕ) (used : ℕ) (bytes : b
       ∙ ap (λ (m : List ℕ). record { number = 0; used = used; bytes = m }) (take-append-drop used b)
 
   -- with any number of cases appended it is the book of its cases and of these
-  pub all-appendedIn :
+  cases-kept :
       (xs : List (List ℕ)) → allCases l xs ≡ true → appendAll l as-stands xs .number ≡ 0 →
       KeptIn l b note (cases ++ xs) (appendAll l as-stands xs)
-  all-appendedIn xs of-xs none =
+  cases-kept xs of-xs none =
       let of-cases = cases-are l b note count bytes in
       let from-built = ap (λ (w : Written). appendAll l w xs) is-built in
       let fit = appendAll-fitted lawful b note cases xs of-cases of-xs (cases-fit lawful b used bytes fine b within)
@@ -80,12 +79,19 @@ module _ {l : Layout} (lawful : Lawful l) (b : List ℕ) (used : ℕ) (bytes : b
       (built-kept lawful b note (cases ++ xs) (allCases-append l cases xs of-cases of-xs)
       (subst (λ (n : ℕ). FitsIn l b note n) (sym (length-append cases xs)) fit))
 
+  pub all-appendedIn :
+      (xs : List (List ℕ)) → allCases l xs ≡ true → appendAll l as-stands xs .number ≡ 0 →
+      KeptIn l b note (casesReadIn l b used count ++ xs) (appendAll l as-stands xs)
+  all-appendedIn xs of-xs none =
+      subst (λ (ys : List (List ℕ)). KeptIn l b note (ys ++ xs) (appendAll l as-stands xs)) (sym (read-cases lawful b used bytes fine))
+      (cases-kept xs of-xs none)
+
   -- one case
   pub appendedIn :
       (x : List ℕ) → allCases l (x ∷ []) ≡ true → appendIn l b used x .number ≡ 0 → AppendedIn l b used x (appendIn l b used x)
   unfolding appendAll
   appendedIn x is-case none =
-      let kept = all-appendedIn (x ∷ []) is-case none in
+      let kept = cases-kept (x ∷ []) is-case none in
       let n-is = casesAt-length l b note count in
       let more-is : length (cases ++ (x ∷ [])) ≡ count + 1 = length-append cases (x ∷ []) ∙ ap (λ (n : ℕ). n + 1) n-is in
       let fields : List ℕ → Fields = λ y. record { number = 0; fields = fieldsOf l y } in

@@ -3,25 +3,29 @@
 use mathlib.Core.Bool.{Bool, true, false, _&&_}
 use mathlib.Core.List.{List, [], _∷_, _++_}
 use mathlib.Core.Path.{_≡_, refl, sym, ap, ap₂, _∙_}
-use Prim.Native.Nat.{ℕ, zero, suc, _+_, _<_}
+use Prim.Native.Nat.{ℕ, zero, suc, _+_, _≤_, _<_}
 use native.Mathlib.Numerals.{add-one}
 use native.Mathlib.Omega.{arith}
 use lib.Dec.{eqb}
-use lib.ListN.{length, getD, length-append, List·getD-append}
-use lib.Seq.{getD-at}
+use lib.ListN.{length, getD, take, length-append, List·getD-append}
+use lib.Seq.{getD-at, take-at}
 use borrow.Author.Tests.{eqb-true, eqb-false, eq-eqb, lt-ltb, lt-leb}
 use Rattle.book_laws.specs.Bytes.{wordAt, wordsAt, below}
 use Rattle.book_laws.specs.Layout.{Layout, recordFields}
 use Rattle.book_laws.specs.Format.{fieldsOf}
 use Rattle.book_laws.specs.Trailer.{describeIn}
-use Rattle.book_laws.specs.Record.{placeFrom, caseAt, answerAt, ratingAt, casesAt}
-use Rattle.book_laws.specs.Read.{readAfter, readIn}
+use Rattle.book_laws.specs.Record.{placeFrom, caseAt, answerAt, ratingAt}
+use Rattle.book_laws.specs.Read.{Fields, readAfter, readIn, casesReadIn}
 use Rattle.book_laws.specs.Accept.{AcceptedIn}
 use Rattle.book_laws.specs.Build.{allCases}
 use Rattle.book_laws.specs.Laws.Bytes.{numberAt-below, wordsAt-length}
 use Rattle.book_laws.specs.Laws.Trailer.{onBook-on}
 use Rattle.book_laws.specs.Laws.Record.{fields-are, agreed-fields, allAgree-each}
 use Rattle.book_laws.specs.Laws.Build.{allCases-append}
+
+unfoldable pub casesAt : Layout → List ℕ → ℕ → ℕ → List (List ℕ)
+casesAt l b first zero = []
+casesAt l b first (suc n) = casesAt l b first n ++ (caseAt l b (placeFrom l first n) ∷ [])
 
 words-of : (b : List ℕ) (at n : ℕ) → below 256 b ≡ true → below 4294967296 (wordsAt b at n) ≡ true
 unfolding below wordsAt
@@ -85,3 +89,17 @@ module _ (l : Layout) (b : List ℕ) (used i : ℕ) (is-record : i < describeIn 
       fields-stand (fine .trailer-right)
       ∙ ap (λ (f : List ℕ). record { number = 0; fields = f })
       (agreed-fields l b place agreed ∙ ap (fieldsOf l) (sym (casesAt-at l b first _ i is-record)))
+
+-- the cases that `read` answers are those of the records that stand there
+pub cases-read :
+    (l : Layout) (b : List ℕ) (used : ℕ) → describeIn l b used .number ≡ 0 → (n : ℕ) → n ≤ describeIn l b used .count →
+    casesReadIn l b used n ≡ casesAt l b (describeIn l b used .first) n
+unfolding casesReadIn casesAt
+cases-read l b used none zero h = refl
+cases-read l b used none (suc n) h =
+    let at = placeFrom l (describeIn l b used .first) n in
+    let fields-are = ap (λ (f : Fields). f .fields) (as-readIn l b used n (omega arith) none) in
+    let case-is : take (l .inputs) (readIn l b used n .fields) ≡ caseAt l b at =
+    ap (take (l .inputs)) fields-are ∙ take-at (caseAt l b at) _ (l .inputs) (wordsAt-length b at (l .inputs))
+    in
+    ap₂ (λ (xs : List (List ℕ)) (x : List ℕ). xs ++ (x ∷ [])) (cases-read l b used none n (omega arith)) case-is

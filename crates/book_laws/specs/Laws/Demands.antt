@@ -5,11 +5,11 @@ use mathlib.Core.Bool.{true}
 use mathlib.Core.List.{List, [], _∷_, _++_}
 use mathlib.Core.Path.{_≡_}
 use Prim.Native.Nat.{ℕ, _≤_, _<_}
+use native.Mathlib.Omega.{arith}
 use lib.ListN.{length, getD, take, drop}
 use Rattle.rating.specs.Rate.{rateOf}
 use Rattle.book_laws.specs.Bytes.{below}
 use Rattle.book_laws.specs.Format.{fieldsOf}
-use Rattle.book_laws.specs.Record.{casesAt}
 use Rattle.book_laws.specs.Start.{Written}
 use Rattle.book_laws.specs.Build.{allCases, appendAll}
 use Rattle.book_laws.specs.Book.{
@@ -19,6 +19,7 @@ use Rattle.book_laws.specs.Book.{
   startOf,
   appendOf,
   readOf,
+  casesOf,
   acceptOf,
   Accepted,
   Appended,
@@ -40,7 +41,7 @@ use Rattle.book_laws.specs.Laws.Refused.{
 }
 use Rattle.book_laws.specs.Laws.Build.{buildIn-fits}
 use Rattle.book_laws.specs.Laws.ReadBack.{keptIn}
-use Rattle.book_laws.specs.Laws.Cases.{cases-as-readIn}
+use Rattle.book_laws.specs.Laws.Cases.{cases-as-readIn, cases-read}
 use Rattle.book_laws.specs.Laws.Rebuild.{rebuiltIn, rebuiltIn-whole}
 use Rattle.book_laws.specs.Laws.Appended.{appendedIn, all-appendedIn}
 
@@ -67,25 +68,26 @@ module _ (b : List ℕ) (used k : ℕ) where
 pub cases-as-read :
     (b : List ℕ) (used : ℕ) → Accepted b used → (i : ℕ) → i < describe b used .count →
     let d = describe b used in
-    let x = getD (casesAt (layoutOf b used) b (d .first) (d .count)) i [] in
+    let x = getD (casesOf b used) i [] in
     readOf b used i ≡ record { number = 0; fields = x ++ (rateOf x .number ∷ rateOf x .rating ∷ []) }
 unfolding fieldsOf
-cases-as-read b used fine i is-record = cases-as-readIn (layoutOf b used) b used i is-record fine
+cases-as-read b used fine i is-record =
+    rw (cases-read (layoutOf b used) b used (fine .trailer-right) (describe b used .count) (omega arith))
+    (cases-as-readIn (layoutOf b used) b used i is-record fine)
 
 module _ (b : List ℕ) (used : ℕ) (bytes : below 256 b ≡ true) (fine : Accepted b used) where
   -- in a buffer that is long enough and has the note at its front; what stood behind stays
   pub rebuilt :
       let d = describe b used in
       (c : List ℕ) → used ≤ length c → take (d .first) c ≡ take (d .first) b →
-      build c (d .first) (casesAt (layoutOf b used) b (d .first) (d .count))
-      ≡ record { number = 0; used = used; bytes = take used b ++ drop used c }
+      build c (d .first) (casesOf b used) ≡ record { number = 0; used = used; bytes = take used b ++ drop used c }
   rebuilt = rebuiltIn rbk1-lawful b used bytes fine
 
   -- in a buffer as long as the book
   pub rebuilt-whole :
       let d = describe b used in
       (c : List ℕ) → length c ≡ used → take (d .first) c ≡ take (d .first) b →
-      build c (d .first) (casesAt (layoutOf b used) b (d .first) (d .count)) ≡ record { number = 0; used = used; bytes = take used b }
+      build c (d .first) (casesOf b used) ≡ record { number = 0; used = used; bytes = take used b }
   rebuilt-whole = rebuiltIn-whole rbk1-lawful b used bytes fine
 
   -- one case more, and any number of them, whichever way the book was made
@@ -97,7 +99,7 @@ module _ (b : List ℕ) (used : ℕ) (bytes : below 256 b ≡ true) (fine : Acce
       let d = describe b used in
       let book : Written = record { number = 0; used = used; bytes = b } in
       (xs : List (List ℕ)) → allCases newLayout xs ≡ true → appendAll newLayout book xs .number ≡ 0 →
-      Kept b (d .first) (casesAt (layoutOf b used) b (d .first) (d .count) ++ xs) (appendAll newLayout book xs)
+      Kept b (d .first) (casesOf b used ++ xs) (appendAll newLayout book xs)
   all-appended = all-appendedIn rbk1-lawful b used bytes fine
 
 -- What a refusal leaves: the number, zeros, and every byte as it was. A record of RBK1 has 28 fields.

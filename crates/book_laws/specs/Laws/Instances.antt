@@ -18,12 +18,13 @@ use Rattle.book_laws.specs.Bytes.{numberBytes, numberAt, wordsBytes, wor
 use Rattle.book_laws.specs.Layout.{rbk1}
 use Rattle.book_laws.specs.Format.{fieldsOf, recordBytes, trailerBytes}
 use Rattle.book_laws.specs.Trailer.{wrongTrailer, describeAt, describeIn, onBookIn}
-use Rattle.book_laws.specs.Record.{allAgree, casesAt}
+use Rattle.book_laws.specs.Record.{allAgree}
 use Rattle.book_laws.specs.Start.{Written}
 use Rattle.book_laws.specs.Append.{appendAfter, appendIn}
+use Rattle.book_laws.specs.Read.{readAfter, readIn, casesReadIn}
 use Rattle.book_laws.specs.Build.{allCases, appendAll}
 use Rattle.book_laws.specs.Built.{builtIn}
-use Rattle.book_laws.specs.Book.{describe, startOf, appendOf, readOf, acceptOf, Accepted, Appended, build, Kept}
+use Rattle.book_laws.specs.Book.{casesOf, describe, startOf, appendOf, readOf, acceptOf, Accepted, Appended, build, Kept}
 use Rattle.book_laws.specs.Laws.Refused.{Unwritten, Unread, Unaccepted}
 use Rattle.book_laws.specs.Laws.Margin.{safe, close}
 use Rattle.book_laws.specs.Laws.Demands.{
@@ -50,14 +51,14 @@ unfolding describeIn describeAt wrongTrailer stands numberAt
 accepts-it = accepts small-book 130 7 fine
 
 reads-it : readOf small-book 130 0 ≡ record { number = 0; fields = cable ++ (rateOf cable .number ∷ rateOf cable .rating ∷ []) }
-unfolding describeIn describeAt wrongTrailer stands casesAt wordsAt numberAt
+unfolding describeIn describeAt wrongTrailer stands casesReadIn readIn readAfter onBookIn wordsAt numberAt
 reads-it = cases-as-read small-book 130 fine 0 (lit< tt)
 
 -- Built again in a buffer as long, with the note at its front.
 
 built-again :
     let d = describe small-book 130 in
-    build (79 ∷ 75 ∷ replicate 128 0) (d .first) (casesAt rbk1 small-book (d .first) (d .count))
+    build (79 ∷ 75 ∷ replicate 128 0) (d .first) (casesOf small-book 130)
     ≡ record { number = 0; used = 130; bytes = take 130 small-book }
 unfolding describeIn describeAt wrongTrailer stands numberAt below
 built-again = rebuilt-whole small-book 130 refl fine (79 ∷ 75 ∷ replicate 128 0) refl refl
@@ -65,12 +66,10 @@ built-again = rebuilt-whole small-book 130 refl fine (79 ∷ 75 ∷ replicate 12
 -- Demand 3 of the record.
 
 under : exactRise cable chosen (whole 457106) ≤F whole (permittedOf cable)
-unfolding describeIn describeAt wrongTrailer stands wordsAt numberAt
-under = safe small-book 130 fine 0 (lit< tt) refl chosen chosen-allowed
+under = safe small-book 130 fine 0 457106 cable refl (literal .reads) chosen chosen-allowed
 
 over : whole (permittedOf cable) <F exactRise cable chosen (whole 457108)
-unfolding describeIn describeAt wrongTrailer stands wordsAt numberAt
-over = close small-book 130 fine 0 (lit< tt) refl chosen chosen-allowed
+over = close small-book 130 fine 0 457106 cable refl (literal .reads) chosen chosen-allowed
 
 -- The cable and the case of 26 zeros, appended after a note of two bytes.
 
@@ -112,7 +111,7 @@ second-record =
 both-records :
     let book : Written = record { number = 0; used = 18; bytes = fresh-book 224 } in
     Kept (fresh-book 224) 2 two-cases (appendAll rbk1 book two-cases)
-unfolding appendAll appendIn appendAfter onBookIn describeIn describeAt wrongTrailer stands numberAt casesAt below splice fieldsOf
+unfolding appendAll appendIn appendAfter onBookIn describeIn describeAt wrongTrailer stands numberAt casesReadIn below splice fieldsOf
     recordBytes wordsBytes numberBytes trailerBytes
 both-records = all-appended (fresh-book 224) 18 refl fresh-fine two-cases are-cases refl
 

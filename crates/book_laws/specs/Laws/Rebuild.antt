@@ -13,7 +13,8 @@ use Rattle.book_laws.specs.Bytes.{numberBytes, wordsBytes, stands, below
 use Rattle.book_laws.specs.Layout.{Layout, recordFields, recordLength, trailerLength}
 use Rattle.book_laws.specs.Format.{recordBytes, recordsBytes, trailerBytes, countAt, distanceAt, lengthAt}
 use Rattle.book_laws.specs.Trailer.{describeIn}
-use Rattle.book_laws.specs.Record.{placeFrom, caseAt, agrees, allAgree, casesAt}
+use Rattle.book_laws.specs.Record.{placeFrom, caseAt, agrees, allAgree}
+use Rattle.book_laws.specs.Read.{casesReadIn}
 use Rattle.book_laws.specs.Accept.{AcceptedIn}
 use Rattle.book_laws.specs.Build.{buildIn}
 use Rattle.book_laws.specs.Built.{bookBytes, usedFor, builtIn, FitsIn}
@@ -23,7 +24,7 @@ use Rattle.book_laws.specs.Laws.Trailer.{described}
 use Rattle.book_laws.specs.Laws.Record.{recordsBytes-append, agreed-fields}
 use Rattle.book_laws.specs.Laws.Built.{bookBytes-length}
 use Rattle.book_laws.specs.Laws.Build.{buildIn-fits}
-use Rattle.book_laws.specs.Laws.Cases.{cases-are, casesAt-length}
+use Rattle.book_laws.specs.Laws.Cases.{casesAt, cases-are, casesAt-length, cases-read}
 
 -- The records that agree, and the trailer, are the bytes that stand there.
 
@@ -122,20 +123,23 @@ module _ {l : Layout} (lawful : Lawful l) (b : List ℕ) (used : ℕ) (bytes : b
       ap₂ (λ (u : ℕ) (m : List ℕ). record { number = 0; used = u; bytes = m }) used-is
       (ap₂ _++_ front (ap (λ (k : ℕ). drop k c) end))
 
-  -- For every accepted book in a buffer of bytes: built in a buffer that is long enough and has the note at its front, nothing is refused,
+  pub read-cases : casesReadIn l b used count ≡ cases
+  read-cases = cases-read l b used (fine .trailer-right) count (omega arith)
+
+  -- For every accepted book in a buffer of bytes: built from its cases in a buffer that is long enough and has the note at its front, nothing is refused,
   -- the used length is the same, and so is every byte of the book; what stood behind stays.
   pub rebuiltIn :
       let d = describeIn l b used in
       (c : List ℕ) → used ≤ length c → take (d .first) c ≡ take (d .first) b →
-      buildIn l c (d .first) (casesAt l b (d .first) (d .count)) ≡ record { number = 0; used = used; bytes = take used b ++ drop used c }
+      buildIn l c (d .first) (casesReadIn l b used (d .count)) ≡ record { number = 0; used = used; bytes = take used b ++ drop used c }
   rebuiltIn c long same-note =
-      buildIn-fits lawful c note cases (cases-are l b note count bytes) (cases-fit c long) ∙ cases-stand c long same-note
+      ap (buildIn l c note) read-cases ∙ buildIn-fits lawful c note cases (cases-are l b note count bytes) (cases-fit c long) ∙ cases-stand c long same-note
 
   -- in a buffer as long as the book
   pub rebuiltIn-whole :
       let d = describeIn l b used in
       (c : List ℕ) → length c ≡ used → take (d .first) c ≡ take (d .first) b →
-      buildIn l c (d .first) (casesAt l b (d .first) (d .count)) ≡ record { number = 0; used = used; bytes = take used b }
+      buildIn l c (d .first) (casesReadIn l b used (d .count)) ≡ record { number = 0; used = used; bytes = take used b }
   rebuiltIn-whole c size same-note =
       let nothing-behind : drop used c ≡ [] = ap (λ (u : ℕ). drop u c) (sym size) ∙ drop-length c in
       rebuiltIn c (omega (arith, size)) same-note

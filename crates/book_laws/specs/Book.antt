@@ -3,7 +3,6 @@ use mathlib.Core.List.{List}
 use Prim.Native.Nat.{ℕ}
 use Rattle.book_laws.specs.Layout.{Layout, rbk1}
 use Rattle.book_laws.specs.Trailer.{Description, describeIn}
-use Rattle.book_laws.specs.Record.{placeFrom}
 use Rattle.book_laws.specs.Start.{Written, startIn}
 use Rattle.book_laws.specs.Append.{appendIn}
 use Rattle.book_laws.specs.Read.{Fields, readIn, casesReadIn}
@@ -48,10 +47,6 @@ Differs b used k = DiffersIn (layoutOf b used) b used k
 -- w is what appending the case x to the accepted book in b left
 abbrev pub Appended : List ℕ → ℕ → List ℕ → Written → Type 0
 Appended b used x w = AppendedIn newLayout b used x w
-
--- where record i of a book stands, from 0
-abbrev pub placeOf : List ℕ → ℕ → ℕ → ℕ
-placeOf b used i = placeFrom (layoutOf b used) (describe b used .first) i
 
 -- A fresh book with cases appended to it.
 

@@ -15,6 +15,7 @@ pub mod Stage10
 pub mod Bounds
 pub mod First
 pub mod Refused
+pub mod Passed
 pub mod Margin
 pub mod Answers
 pub mod Steps

@@ -1,0 +1,2 @@
+-- That the premises of the demands are met. Assumes nothing.
+pub mod Instances

@@ -1,0 +1,1 @@
+// The three demands as theorems only: see specs/Demands.antt.

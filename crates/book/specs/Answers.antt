@@ -20,7 +20,7 @@ fieldsRead r = record { number = r .number; fields = r .fields }
 abbrev pub acceptanceOf : CodeAcceptance.Acceptance → Acceptance
 acceptanceOf r = record { number = r .number; count = r .count; note = r .note; named = r .named }
 
--- r is what accept answers, and the record that 23 names differs
+-- r is what accept answers; where it is 23, the record that it names differs
 pub record AcceptAnswers (b : List ℕ) (used : ℕ) (r : CodeAcceptance.Acceptance) : Type 0 where
   pub answer-is : acceptanceOf r ≡ acceptOf b used (r .named)
   pub differs : r .number ≡ 23 → Differs b used (r .named)

@@ -42,7 +42,7 @@ pub struct NextSaid {
 }
 
 pub fn start() -> Input
-    ensures { λ r. ⌜ (r .at ≤ r .end) × (r .end ≤ 0) ⌝ }
+    ensures { λ r. ⌜ Ready r 0 ⌝ }
 {
     Input {
         at: 0,

@@ -9,7 +9,7 @@ ghost use Rattle.book.specs.Answers.{acceptanceOf};
 ghost use Rattle.book_laws.specs.Book.{acceptOf, Differs};
 ghost use Rattle.book_laws.specs.Layout.{rbk1};
 ghost use Rattle.list_text.specs.Listing.{recordLine, recordLines, listingFor, listingOf};
-ghost use Rattle.list_text.specs.Laws.Steps.{RecordFits, RecordsFit};
+ghost use Rattle.list_text.specs.Laws.Steps.{LineFits, LinesFit};
 ghost use Rattle.splice.specs.Put.{PutWithin};
 ghost use Rattle.splice.specs.Splice.{splice};
 ghost use Rattle.decimals.specs.Decimal.{decimal, written};
@@ -48,7 +48,7 @@ fn put_numbers(out: &mut [u8], at: usize, number: u64, answer: u64, rating: u64)
 
 // The line of record i, from 0, of a book whose first record stands at `first`.
 fn put_record(out: &mut [u8], at: usize, book: &[u8], first: usize, i: usize) -> usize
-    requires { ⌜ RecordFits (now out) (now book) (at + 63) first i ⌝ }
+    requires { ⌜ LineFits (now out) (now book) (at + 63) first i ⌝ }
     ensures { λ r. ⌜ PutWithin (now (out .entry)) at (recordLine rbk1 (now (book .entry)) first i)
         (now (out .exit)) r (at + 63) ⌝ }
 {
@@ -64,7 +64,7 @@ fn put_record(out: &mut [u8], at: usize, book: &[u8], first: usize, i: usize) ->
 
 // The lines of the first `count` records.
 fn put_records(out: &mut [u8], at: usize, book: &[u8], first: usize, count: usize) -> usize
-    requires { ⌜ RecordsFit (now out) (now book) (at + 63 * count) first count ⌝ }
+    requires { ⌜ LinesFit (now out) (now book) (at + 63 * count) first count ⌝ }
     ensures { λ r. ⌜ PutWithin (now (out .entry)) at (recordLines rbk1 (now (book .entry)) first count)
         (now (out .exit)) r (at + 63 * count) ⌝ }
 {
@@ -79,7 +79,7 @@ fn put_records(out: &mut [u8], at: usize, book: &[u8], first: usize, count: usiz
 
 // By what accept answered: at most 64 bytes for the first line, and 63 for each record.
 fn put_listing(out: &mut [u8], book: &[u8], a: Acceptance) -> usize
-    requires { ⌜ RecordsFit (now out) (now book) (64 + 63 * a .count) (a .note) (a .count) ⌝ }
+    requires { ⌜ LinesFit (now out) (now book) (64 + 63 * a .count) (a .note) (a .count) ⌝ }
     ensures { λ r. ⌜ PutWithin (now (out .entry)) 0 (listingFor rbk1 (now (book .entry)) (acceptanceOf a))
         (now (out .exit)) r (64 + 63 * a .count) ⌝ }
 {

@@ -52,7 +52,8 @@ fn put_answer(out: &mut [u8], at: usize, a: Answer) -> usize
 // Writes what is said of a line: its number, and a text.
 pub fn put_about(out: &mut [u8], at: usize, number: u64, text: &[u8]) -> usize
     requires { ⌜ at + 25 + length (now text) ≤ length (now out) ⌝ }
-    ensures { λ r. ⌜ PutWithin (now (out .entry)) at (aboutLine number (now (text .entry))) (now (out .exit)) r (at + 25 + length (now (text .entry))) ⌝ }
+    ensures { λ r. ⌜ PutWithin (now (out .entry)) at (aboutLine number (now (text .entry))) (now (out .exit)) r
+        (at + 25 + length (now (text .entry))) ⌝ }
 {
     let digits = put_bytes(out, at, b"line ");
     let rest = put_decimal(out, digits, number);

@@ -62,7 +62,8 @@ ready-next {l} {at} {r = r} zero zero e f g =
           };
     }
 ready-next zero (suc q) e f g = absurd (omega arith)
-ready-next {l} {at} {p = p} {r = r} (suc y) q e f g =
+ready-next {l} {at} {n = n} {p = p} {r = r} (suc y) q e f g =
     let moved : r ≡ p + 1 = omega arith in
     let whole = ready-last (suc y) q e f (record { place-is = moved; list-is = g .list-is }) in
-    record { inside = f .inside; next = λ d. put-then l at (decimal (suc y)) (d ∷ []) (f .inside) whole (record { place-is = refl; list-is = refl }) }
+    let byte : (d : ℕ) → Put n r (d ∷ []) (splice n r (d ∷ [])) (r + 1) = λ d. record { place-is = refl; list-is = refl } in
+    record { inside = f .inside; next = λ d. put-then l at (decimal (suc y)) (d ∷ []) (f .inside) whole (byte d) }

@@ -40,8 +40,8 @@ as-long :
 as-long out sheet rating is-14 is-13 wrote = omega (arith, ap length (wrote ∙ filled out sheet rating is-14 is-13))
 
 called-right :
-    (x out : List ℕ) {r : Code.Answer} {m : List ℕ} → length x ≡ width → length out ≡ 14 → answerOf r ≡ rateOf x → m ≡ r .rating ∷ r .sheet →
-    call (r .answer) m ≡ rateCall x out
+    (x out : List ℕ) {r : Code.Answer} {m : List ℕ} → length x ≡ width → length out ≡ 14 → answerOf r ≡ rateOf x →
+    m ≡ r .rating ∷ r .sheet → call (r .answer) m ≡ rateCall x out
 unfolding rateCall called
 called-right x out is-case is-14 rated wrote =
     rw (wrote, ← rated) (sym (simp (eq-eqb _ _ is-case, eq-eqb _ _ is-14)))

@@ -31,7 +31,8 @@ count x one h = count-64 (x / one) (lt-of-le-of-lt (div-le-self x one) h)
 no-decimals : tie.Need-returns
 no-decimals c =
     let a = c .before .before .before .before .before .before .args in
-    put-as _ _ (fixed-none (a .decimals) (a .x) (c .before .before .before .before .if1 .taken)) (c .before .before .put-decimal .ensures)
+    let none = c .before .before .before .before .if1 .taken in
+    put-as _ _ (fixed-none (a .decimals) (a .x) none) (c .before .before .put-decimal .ensures)
 
 power-positive : tie.Need-div-put-decimal
 power-positive c = positive _ _ (c .before .power-of-ten .ensures)
@@ -42,7 +43,8 @@ power-positive-again c = positive _ _ (c .before .before .before .before .before
 sum-fits : tie.Need-add-put-decimal
 sum-fits c =
     let start = c .before .before .before .before .before .before .before .before in
-    omega (arith, sum-small _ _ (start .args .x) (c .before .before .before .before .before .power-of-ten .ensures) (start .pre .few-decimals))
+    let power = c .before .before .before .before .before .power-of-ten .ensures in
+    omega (arith, sum-small _ _ (start .args .x) power (start .pre .few-decimals))
 
 room-for-rest : tie.Need-put-decimal-requires-3
 room-for-rest c κs =

@@ -2,7 +2,7 @@
 ghost use mathlib.Core.Path.{_≡_};
 ghost use Prim.Native.Nat.{_+_, _*_, _≤_};
 ghost use lib.ListN.{length};
-ghost use Rattle.book_bytes.specs.Answers.{FieldsMade};
+ghost use Rattle.book_bytes.specs.Laws.Steps.{FieldsMade};
 ghost use Rattle.book_laws.specs.Bytes.{wordsAt, wordsBytes};
 ghost use Rattle.book_laws.specs.Layout.{rbk1, recordFields, recordLength};
 ghost use Rattle.book_laws.specs.Record.{caseAt, answerAt, ratingAt, agrees};

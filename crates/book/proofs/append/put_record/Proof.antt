@@ -8,7 +8,7 @@ use Rattle.splice.specs.Splice.{splice}
 use Rattle.splice.specs.Laws.Splice.{splice-after}
 use Rattle.rating.specs.Rate.{Answer, answerOf, rateOf}
 use Rattle.rating.specs.declared.rate.Answer as Code
-use Rattle.book_bytes.specs.Answers.{FieldsMade}
+use Rattle.book_bytes.specs.Laws.Steps.{FieldsMade}
 use Rattle.book_laws.specs.Bytes.{wordsBytes}
 use Rattle.book_laws.specs.Layout.{rbk1, recordLength}
 use Rattle.book_laws.specs.Format.{fieldsOf, recordBytes, trailerBytes}

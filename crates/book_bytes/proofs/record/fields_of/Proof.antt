@@ -9,7 +9,7 @@ use lib.Seq.{take-all, take-suc-set}
 use Rattle.splice.specs.Laws.Splice.{copy-one}
 use Rattle.fields.specs.Fields.{width}
 use Rattle.book_laws.specs.Layout.{rbk1, recordFields}
-use Rattle.book_bytes.specs.Answers.{FieldsMade}
+use Rattle.book_bytes.specs.Laws.Steps.{FieldsMade}
 use Rattle.book_bytes.proofs.record.fields_of.Statement.{statement}
 use Rattle.book_bytes.proofs.record.fields_of.Tie as tie
 

@@ -1,8 +1,7 @@
 // Accepting a book: every record is its case's rating.
 ghost use mathlib.Core.Path.{_≡_};
 ghost use Rattle.book_laws.specs.Accept;
-ghost use Rattle.book_laws.specs.Book.{acceptOf, Differs};
-ghost use Rattle.book.specs.Answers.{acceptanceOf};
+ghost use Rattle.book.specs.Answers.{AcceptAnswers, acceptanceOf};
 use book_bytes::layout::RECORD_LENGTH;
 use book_bytes::record::record_agrees;
 use book_bytes::trailer::describe_book;
@@ -27,8 +26,7 @@ fn unaccepted(number: u32, named: usize) -> Acceptance
 }
 
 pub fn accept(buffer: &[u8], used: usize) -> Acceptance
-    ensures { λ r. ⌜ (acceptanceOf r ≡ acceptOf (now (buffer .entry)) used (r .named))
-        × (r .number ≡ 23 → Differs (now (buffer .entry)) used (r .named)) ⌝ }
+    ensures { λ r. ⌜ AcceptAnswers (now (buffer .entry)) used r ⌝ }
 {
     let d = describe_book(buffer, used);
     if d.number != 0 {

@@ -2,13 +2,12 @@
 ghost use mathlib.Core.Bool.{cond};
 ghost use mathlib.Core.List.{_++_};
 ghost use mathlib.Core.Path.{_≡_};
-ghost use Prim.Native.Nat.{_+_, _≤_};
 ghost use lib.Dec.{leb, ltb};
-ghost use lib.ListN.{length};
 ghost use Rattle.book_laws.specs.Book.{appendOf};
 ghost use Rattle.book_laws.specs.Format.{recordBytes, trailerBytes};
-ghost use Rattle.book_laws.specs.Layout.{rbk1, recordLength, trailerLength};
+ghost use Rattle.book_laws.specs.Layout.{rbk1, recordLength};
 ghost use Rattle.book.specs.Answers.{writtenOf};
+ghost use Rattle.book.specs.Laws.Steps.{RecordFits};
 ghost use Rattle.splice.specs.Splice.{splice};
 use super::start::Written;
 use super::start::unwritten;
@@ -24,7 +23,7 @@ use rating::rate::rate;
 
 // Writes the record of a case at `at`, and the trailer of a book of `count` records after it.
 fn put_record(buffer: &mut [u8], at: usize, x: Case, count: u32)
-    requires { ⌜ (at + (recordLength rbk1 + trailerLength rbk1) ≤ length (now buffer)) × (count ≤ rbk1 .most) ⌝ }
+    requires { ⌜ RecordFits (now buffer) at count ⌝ }
     ensures { λ _. ⌜ now (buffer .exit)
         ≡ splice (now (buffer .entry)) at (recordBytes rbk1 x ++ trailerBytes rbk1 count) ⌝ }
 {

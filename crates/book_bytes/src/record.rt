@@ -1,8 +1,8 @@
 // A record: the inputs, the answer and the rating, each a field.
-ghost use mathlib.Core.List.{[], _∷_, _++_};
 ghost use mathlib.Core.Path.{_≡_};
 ghost use Prim.Native.Nat.{_+_, _*_, _≤_};
 ghost use lib.ListN.{length};
+ghost use Rattle.book_bytes.specs.Laws.Steps.{FieldsMade};
 ghost use Rattle.book_laws.specs.Bytes.{wordsAt, wordsBytes};
 ghost use Rattle.book_laws.specs.Layout.{rbk1, recordFields, recordLength};
 ghost use Rattle.book_laws.specs.Record.{caseAt, answerAt, ratingAt, agrees};
@@ -69,7 +69,7 @@ pub fn rating_at(buffer: &[u8], at: usize) -> u32
 
 // The fields of a record.
 pub fn fields_of(x: Case, answer: u32, rating: u32) -> Record
-    ensures { λ r. ⌜ (r ≡ x ++ (answer ∷ rating ∷ [])) × (length r ≡ recordFields rbk1) ⌝ }
+    ensures { λ r. ⌜ FieldsMade x answer rating r ⌝ }
 {
     let mut fields = [0u32; RECORD_FIELDS];
     let mut i = 0;

@@ -31,5 +31,6 @@ padded zero x = []
 padded (suc n) x = padded n (x / 10) ++ ((x % 10 + 48) ∷ [])
 
 -- the last n digits of x stand in l from `at` on, which makes l to m, and r is the place after them
-abbrev pub PutPadded : List ℕ → ℕ → ℕ → ℕ → List ℕ → ℕ → Type 0
-PutPadded l at n x m r = (r ≡ at + n) × (m ≡ splice l at (padded n x))
+pub record PutPadded (l : List ℕ) (at n x : ℕ) (m : List ℕ) (r : ℕ) : Type 0 where
+  pub place-is : r ≡ at + n
+  pub list-is : m ≡ splice l at (padded n x)

@@ -2,11 +2,12 @@
 // where the next byte goes.
 ghost use mathlib.Core.List.{[], _∷_};
 ghost use mathlib.Core.Path.{_≡_};
-ghost use Prim.Native.Nat.{_+_, _%_, _<_, _≤_, min};
+ghost use Prim.Native.Nat.{_+_, _<_, _≤_};
 ghost use lib.ListN.{length};
 ghost use Rattle.decimals.specs.Decimal.{PutPadded, decimal, spaced};
-ghost use Rattle.splice.specs.Put.{Put};
-ghost use Rattle.splice.specs.Splice.{splice};
+ghost use Rattle.decimals.specs.Laws.Leading.{PutLeading};
+ghost use Rattle.decimals.specs.Laws.Parts.{DigitsFit};
+ghost use Rattle.splice.specs.Put.{Put, PutWithin};
 
 // The byte of a digit.
 fn digit(d: u32) -> u8
@@ -18,7 +19,7 @@ fn digit(d: u32) -> u8
 
 // Writes two digits, with a zero in front of a number below ten.
 fn put_two(out: &mut [u8], at: usize, x: u32) -> usize
-    requires { ⌜ (at + 2 ≤ length (now out)) × (x < 100) ⌝ }
+    requires { ⌜ DigitsFit (now out) at 2 x ⌝ }
     ensures { λ r. ⌜ PutPadded (now (out .entry)) at 2 x (now (out .exit)) r ⌝ }
 {
     let last = put_byte(out, at, digit(x / 10));
@@ -27,7 +28,7 @@ fn put_two(out: &mut [u8], at: usize, x: u32) -> usize
 
 // Writes four digits, with zeros in front of a smaller number.
 fn put_four(out: &mut [u8], at: usize, x: u32) -> usize
-    requires { ⌜ (at + 4 ≤ length (now out)) × (x < 10000) ⌝ }
+    requires { ⌜ DigitsFit (now out) at 4 x ⌝ }
     ensures { λ r. ⌜ PutPadded (now (out .entry)) at 4 x (now (out .exit)) r ⌝ }
 {
     let half = put_two(out, at, x / 100);
@@ -36,7 +37,7 @@ fn put_four(out: &mut [u8], at: usize, x: u32) -> usize
 
 // Writes eight digits, with zeros in front of a smaller number.
 fn put_eight(out: &mut [u8], at: usize, x: u32) -> usize
-    requires { ⌜ (at + 8 ≤ length (now out)) × (x < 100000000) ⌝ }
+    requires { ⌜ DigitsFit (now out) at 8 x ⌝ }
     ensures { λ r. ⌜ PutPadded (now (out .entry)) at 8 x (now (out .exit)) r ⌝ }
 {
     let half = put_four(out, at, x / 10000);
@@ -47,7 +48,7 @@ fn put_eight(out: &mut [u8], at: usize, x: u32) -> usize
 // after it, so that the next digit takes the place of a zero in front of a number.
 fn put_leading(out: &mut [u8], at: usize, y: u32) -> usize
     requires { ⌜ at < length (now out) ⌝ }
-    ensures { λ r. ⌜ (r ≡ at + min y 1) × (now (out .exit) ≡ splice (now (out .entry)) at ((y % 10 + 48) ∷ [])) ⌝ }
+    ensures { λ r. ⌜ PutLeading (now (out .entry)) at y (now (out .exit)) r ⌝ }
 {
     out[at] = digit(y % 10);
     if 0 < y { at + 1 } else { at }
@@ -56,7 +57,7 @@ fn put_leading(out: &mut [u8], at: usize, y: u32) -> usize
 // Writes a number of at most four digits in decimal, by the same steps however many it has: no jump
 // depends on that.
 fn put_to_four(out: &mut [u8], at: usize, x: u32) -> usize
-    requires { ⌜ (at + 4 ≤ length (now out)) × (x < 10000) ⌝ }
+    requires { ⌜ DigitsFit (now out) at 4 x ⌝ }
     ensures { λ r. ⌜ Put (now (out .entry)) at (decimal x) (now (out .exit)) r ⌝ }
 {
     let second = put_leading(out, at, x / 1000);
@@ -67,7 +68,7 @@ fn put_to_four(out: &mut [u8], at: usize, x: u32) -> usize
 
 // Writes a number of at most eight digits in decimal.
 fn put_to_eight(out: &mut [u8], at: usize, x: u32) -> usize
-    requires { ⌜ (at + 8 ≤ length (now out)) × (x < 100000000) ⌝ }
+    requires { ⌜ DigitsFit (now out) at 8 x ⌝ }
     ensures { λ r. ⌜ Put (now (out .entry)) at (decimal x) (now (out .exit)) r ⌝ }
 {
     if x < 10000 {
@@ -112,8 +113,7 @@ pub fn put_byte(out: &mut [u8], at: usize, b: u8) -> usize
 // Writes a blank and a number.
 pub fn put_number(out: &mut [u8], at: usize, x: u64) -> usize
     requires { ⌜ at + 21 ≤ length (now out) ⌝ }
-    ensures { λ r. ⌜ Put (now (out .entry)) at (spaced (x ∷ [])) (now (out .exit)) r ⌝ }
-    ensures { λ r. ⌜ r ≤ at + 21 ⌝ }
+    ensures { λ r. ⌜ PutWithin (now (out .entry)) at (spaced (x ∷ [])) (now (out .exit)) r (at + 21) ⌝ }
 {
     let digits = put_byte(out, at, b' ');
     put_decimal(out, digits, x)

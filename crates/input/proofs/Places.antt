@@ -2,12 +2,13 @@
 -- within the line. Assumes nothing.
 use mathlib.Core.Path.{_≡_, ap}
 use mathlib.Core.List.{List}
-use Prim.Native.Nat.{ℕ, _+_, _≤_}
+use Prim.Native.Nat.{ℕ, _≤_}
 use native.Mathlib.Omega.{arith}
 use lib.ListN.{length, take, length-append}
 use lib.Seq.{length-take-le}
 use Rattle.text.specs.Gather.{isInLine}
 use Rattle.text.specs.Laws.Runs.{run-within}
+use Rattle.splice.specs.Put.{Put}
 use Rattle.splice.specs.Splice.{splice}
 use Rattle.text.specs.Words.{runEnd}
 
@@ -18,8 +19,8 @@ stop-within {at} {stop} {end} l at≤ end≤ stop-is =
     omega (arith, run-within isInLine (take end l) at (omega arith))
 
 pub length-within :
-    {len r : ℕ} {last : List ℕ} (l vs : List ℕ) → len ≤ length l → r ≡ len + length vs → last ≡ splice l len vs → r ≤ length last
+    {len r : ℕ} {last : List ℕ} (l vs : List ℕ) → len ≤ length l → Put l len vs last r → r ≤ length last
 unfolding splice
-length-within {len} {r} {last} l vs len≤ r-is last-is =
+length-within {len} {r} {last} l vs len≤ kept =
     let size : length (take len l) ≡ len = length-take-le len l len≤ in
-    omega (arith, simp length-append at (ap length last-is))
+    omega (arith, kept .place-is, simp length-append at (ap length (kept .list-is)))

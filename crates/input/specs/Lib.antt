@@ -1,2 +1,3 @@
 -- What reading keeps of its positions and buffers. Assumes nothing.
 pub mod State
+pub mod Laws

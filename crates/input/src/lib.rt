@@ -5,6 +5,7 @@ ghost use mathlib.Core.Bool.{true};
 ghost use mathlib.Core.Path.{_≡_};
 ghost use Prim.Native.Nat.{_≤_};
 ghost use lib.ListN.{length, take};
+ghost use Rattle.input.specs.Laws.Steps.{PartReady, PartGathered};
 ghost use Rattle.input.specs.State.{Ready, Given, saidHere};
 ghost use Rattle.line_in_place.specs.Standing.{standing};
 use line_in_place::read_at;
@@ -41,7 +42,7 @@ pub struct NextSaid {
 }
 
 pub fn start() -> Input
-    ensures { λ r. ⌜ (r .at ≤ r .end) × (r .end ≤ 0) ⌝ }
+    ensures { λ r. ⌜ Ready r 0 ⌝ }
 {
     Input {
         at: 0,
@@ -57,8 +58,8 @@ struct Gathered {
 }
 
 fn gather(chunk: &[u8], line: &mut [u8], len: usize, at: usize, end: usize) -> Gathered
-    requires { ⌜ (at ≤ end) × (end ≤ length (now chunk)) × (len ≤ length (now line)) ⌝ }
-    ensures { λ g. ⌜ (g .stop ≤ end) × (g .len ≤ length (now (line .exit))) ⌝ }
+    requires { ⌜ PartReady (now chunk) (now line) len at end ⌝ }
+    ensures { λ g. ⌜ PartGathered g end (now (line .exit)) ⌝ }
 {
     let part = &chunk[..end];
     let stop = line_feed(part, at);

@@ -3,14 +3,14 @@
 // next one has room.
 ghost use mathlib.Core.List.{[], _∷_, _++_};
 ghost use mathlib.Core.Path.{_≡_};
-ghost use Prim.Native.Nat.{_+_, _*_, _≤_, _<_};
+ghost use Prim.Native.Nat.{_+_, _*_, _≤_};
 ghost use lib.ListN.{length};
 ghost use Rattle.book.specs.Answers.{acceptanceOf};
 ghost use Rattle.book_laws.specs.Book.{acceptOf, Differs};
-ghost use Rattle.book_laws.specs.Layout.{rbk1, recordLength};
-ghost use Rattle.book_laws.specs.Record.{placeFrom};
+ghost use Rattle.book_laws.specs.Layout.{rbk1};
 ghost use Rattle.list_text.specs.Listing.{recordLine, recordLines, listingFor, listingOf};
-ghost use Rattle.splice.specs.Put.{Put};
+ghost use Rattle.list_text.specs.Laws.Steps.{LineFits, LinesFit};
+ghost use Rattle.splice.specs.Put.{PutWithin};
 ghost use Rattle.splice.specs.Splice.{splice};
 ghost use Rattle.decimals.specs.Decimal.{decimal, written};
 use book::accept::Acceptance;
@@ -26,9 +26,8 @@ use text::bytes::put_bytes;
 // A word or two, a number and a line feed.
 fn put_line(out: &mut [u8], at: usize, words: &[u8], number: u64) -> usize
     requires { ⌜ at + length (now words) + 21 ≤ length (now out) ⌝ }
-    ensures { λ r. ⌜ Put (now (out .entry)) at (now (words .entry) ++ decimal number ++ (10 ∷ []))
-        (now (out .exit)) r ⌝ }
-    ensures { λ r. ⌜ r ≤ at + length (now (words .entry)) + 21 ⌝ }
+    ensures { λ r. ⌜ PutWithin (now (out .entry)) at (now (words .entry) ++ decimal number ++ (10 ∷ []))
+        (now (out .exit)) r (at + length (now (words .entry)) + 21) ⌝ }
 {
     let digits = put_bytes(out, at, words);
     let end = put_decimal(out, digits, number);
@@ -38,9 +37,8 @@ fn put_line(out: &mut [u8], at: usize, words: &[u8], number: u64) -> usize
 // A record's number, answer and rating with a blank between them, and a line feed.
 fn put_numbers(out: &mut [u8], at: usize, number: u64, answer: u64, rating: u64) -> usize
     requires { ⌜ at + 63 ≤ length (now out) ⌝ }
-    ensures { λ r. ⌜ Put (now (out .entry)) at (written (number ∷ answer ∷ rating ∷ []) ++ (10 ∷ []))
-        (now (out .exit)) r ⌝ }
-    ensures { λ r. ⌜ r ≤ at + 63 ⌝ }
+    ensures { λ r. ⌜ PutWithin (now (out .entry)) at (written (number ∷ answer ∷ rating ∷ []) ++ (10 ∷ []))
+        (now (out .exit)) r (at + 63) ⌝ }
 {
     let first = put_decimal(out, at, number);
     let second = put_number(out, first, answer);
@@ -50,10 +48,9 @@ fn put_numbers(out: &mut [u8], at: usize, number: u64, answer: u64, rating: u64)
 
 // The line of record i, from 0, of a book whose first record stands at `first`.
 fn put_record(out: &mut [u8], at: usize, book: &[u8], first: usize, i: usize) -> usize
-    requires { ⌜ (at + 63 ≤ length (now out)) × (placeFrom rbk1 first i + recordLength rbk1 ≤ length (now book))
-        × (i < rbk1 .most) ⌝ }
-    ensures { λ r. ⌜ Put (now (out .entry)) at (recordLine rbk1 (now (book .entry)) first i) (now (out .exit)) r ⌝ }
-    ensures { λ r. ⌜ r ≤ at + 63 ⌝ }
+    requires { ⌜ LineFits (now out) (now book) (at + 63) first i ⌝ }
+    ensures { λ r. ⌜ PutWithin (now (out .entry)) at (recordLine rbk1 (now (book .entry)) first i)
+        (now (out .exit)) r (at + 63) ⌝ }
 {
     let place = first + RECORD_LENGTH * i;
     put_numbers(
@@ -67,11 +64,9 @@ fn put_record(out: &mut [u8], at: usize, book: &[u8], first: usize, i: usize) ->
 
 // The lines of the first `count` records.
 fn put_records(out: &mut [u8], at: usize, book: &[u8], first: usize, count: usize) -> usize
-    requires { ⌜ (at + 63 * count ≤ length (now out)) × (placeFrom rbk1 first count ≤ length (now book))
-        × (count ≤ rbk1 .most) ⌝ }
-    ensures { λ r. ⌜ Put (now (out .entry)) at (recordLines rbk1 (now (book .entry)) first count)
-        (now (out .exit)) r ⌝ }
-    ensures { λ r. ⌜ r ≤ at + 63 * count ⌝ }
+    requires { ⌜ LinesFit (now out) (now book) (at + 63 * count) first count ⌝ }
+    ensures { λ r. ⌜ PutWithin (now (out .entry)) at (recordLines rbk1 (now (book .entry)) first count)
+        (now (out .exit)) r (at + 63 * count) ⌝ }
 {
     let mut end = at;
     let mut i = 0;
@@ -84,11 +79,9 @@ fn put_records(out: &mut [u8], at: usize, book: &[u8], first: usize, count: usiz
 
 // By what accept answered: at most 64 bytes for the first line, and 63 for each record.
 fn put_listing(out: &mut [u8], book: &[u8], a: Acceptance) -> usize
-    requires { ⌜ (64 + 63 * a .count ≤ length (now out)) × (placeFrom rbk1 (a .note) (a .count) ≤ length (now book))
-        × (a .count ≤ rbk1 .most) ⌝ }
-    ensures { λ r. ⌜ (r ≡ length (listingFor rbk1 (now (book .entry)) (acceptanceOf a)))
-        × (now (out .exit) ≡ splice (now (out .entry)) 0 (listingFor rbk1 (now (book .entry)) (acceptanceOf a))) ⌝ }
-    ensures { λ r. ⌜ r ≤ 64 + 63 * a .count ⌝ }
+    requires { ⌜ LinesFit (now out) (now book) (64 + 63 * a .count) (a .note) (a .count) ⌝ }
+    ensures { λ r. ⌜ PutWithin (now (out .entry)) 0 (listingFor rbk1 (now (book .entry)) (acceptanceOf a))
+        (now (out .exit)) r (64 + 63 * a .count) ⌝ }
 {
     if a.number == 0 {
         let count = a.count;

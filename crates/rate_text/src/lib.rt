@@ -7,7 +7,7 @@ ghost use Rattle.rate_text.specs.Answers.{answerRoom, sheetRoom, textOf,
 ghost use Rattle.rating.specs.Rate.{answerOf};
 ghost use Rattle.decimals.specs.Decimal.{spaced};
 ghost use Rattle.text.specs.Answer.{saidOf};
-ghost use Rattle.splice.specs.Put.{Put};
+ghost use Rattle.splice.specs.Put.{PutWithin};
 use decimals::put_byte;
 use decimals::put_decimal;
 use decimals::put_number;
@@ -26,8 +26,7 @@ pub const ROOM: usize = 512;
 // Writes each number of a sheet with a blank before it.
 fn put_sheet(out: &mut [u8], at: usize, xs: [u64; SHEET]) -> usize
     requires { ⌜ at + sheetRoom ≤ length (now out) ⌝ }
-    ensures { λ r. ⌜ Put (now (out .entry)) at (spaced xs) (now (out .exit)) r ⌝ }
-    ensures { λ r. ⌜ r ≤ at + sheetRoom ⌝ }
+    ensures { λ r. ⌜ PutWithin (now (out .entry)) at (spaced xs) (now (out .exit)) r (at + sheetRoom) ⌝ }
 {
     let mut end = at;
     let mut i = 0;
@@ -41,8 +40,7 @@ fn put_sheet(out: &mut [u8], at: usize, xs: [u64; SHEET]) -> usize
 // Writes the line for a case.
 fn put_answer(out: &mut [u8], at: usize, a: Answer) -> usize
     requires { ⌜ at + answerRoom ≤ length (now out) ⌝ }
-    ensures { λ r. ⌜ Put (now (out .entry)) at (textOf (answerOf a)) (now (out .exit)) r ⌝ }
-    ensures { λ r. ⌜ r ≤ at + answerRoom ⌝ }
+    ensures { λ r. ⌜ PutWithin (now (out .entry)) at (textOf (answerOf a)) (now (out .exit)) r (at + answerRoom) ⌝ }
 {
     let sheet = a.sheet;
     let first = put_decimal(out, at, a.answer as u64);
@@ -54,8 +52,8 @@ fn put_answer(out: &mut [u8], at: usize, a: Answer) -> usize
 // Writes what is said of a line: its number, and a text.
 pub fn put_about(out: &mut [u8], at: usize, number: u64, text: &[u8]) -> usize
     requires { ⌜ at + 25 + length (now text) ≤ length (now out) ⌝ }
-    ensures { λ r. ⌜ Put (now (out .entry)) at (aboutLine number (now (text .entry))) (now (out .exit)) r ⌝ }
-    ensures { λ r. ⌜ r ≤ at + 25 + length (now (text .entry)) ⌝ }
+    ensures { λ r. ⌜ PutWithin (now (out .entry)) at (aboutLine number (now (text .entry))) (now (out .exit)) r
+        (at + 25 + length (now (text .entry))) ⌝ }
 {
     let digits = put_bytes(out, at, b"line ");
     let rest = put_decimal(out, digits, number);
@@ -65,8 +63,7 @@ pub fn put_about(out: &mut [u8], at: usize, number: u64, text: &[u8]) -> usize
 // Writes the line for an unreadable line.
 fn put_unreadable(out: &mut [u8], at: usize, number: u64) -> usize
     requires { ⌜ at + answerRoom ≤ length (now out) ⌝ }
-    ensures { λ r. ⌜ Put (now (out .entry)) at (unreadableText number) (now (out .exit)) r ⌝ }
-    ensures { λ r. ⌜ r ≤ at + answerRoom ⌝ }
+    ensures { λ r. ⌜ PutWithin (now (out .entry)) at (unreadableText number) (now (out .exit)) r (at + answerRoom) ⌝ }
 {
     put_about(out, at, number, b": unreadable\n")
 }
@@ -74,8 +71,7 @@ fn put_unreadable(out: &mut [u8], at: usize, number: u64) -> usize
 // Writes what is printed for a line, given its number and what it says.
 pub fn print_said(out: &mut [u8], at: usize, number: u64, said: Read) -> usize
     requires { ⌜ at + answerRoom ≤ length (now out) ⌝ }
-    ensures { λ r. ⌜ Put (now (out .entry)) at (printedFor number (saidOf said)) (now (out .exit)) r ⌝ }
-    ensures { λ r. ⌜ r ≤ at + answerRoom ⌝ }
+    ensures { λ r. ⌜ PutWithin (now (out .entry)) at (printedFor number (saidOf said)) (now (out .exit)) r (at + answerRoom) ⌝ }
 {
     if said.kind == PASSED_OVER {
         return at;
@@ -90,8 +86,7 @@ pub fn print_said(out: &mut [u8], at: usize, number: u64, said: Read) -> usize
 // Writes what is printed for a line, given its number and its bytes without the line feed.
 pub fn print_line(out: &mut [u8], at: usize, number: u64, line: &[u8]) -> usize
     requires { ⌜ at + answerRoom ≤ length (now out) ⌝ }
-    ensures { λ r. ⌜ Put (now (out .entry)) at (printed number (now (line .entry))) (now (out .exit)) r ⌝ }
-    ensures { λ r. ⌜ r ≤ at + answerRoom ⌝ }
+    ensures { λ r. ⌜ PutWithin (now (out .entry)) at (printed number (now (line .entry))) (now (out .exit)) r (at + answerRoom) ⌝ }
 {
     print_said(out, at, number, read_line(line))
 }

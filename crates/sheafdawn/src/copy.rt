@@ -3,7 +3,7 @@ ghost use mathlib.Core.Path.{_≡_};
 ghost use lib.ListN.{length};
 ghost use Rattle.book_laws.specs.Layout.{rbk1, recordFields};
 ghost use Rattle.fields.specs.Fields.{width};
-ghost use Rattle.splice.specs.Splice.{splice};
+ghost use Rattle.sheafdawn.specs.Laws.Steps.{SheetPut};
 use book_bytes::layout::Record;
 use fields::Case;
 use fields::WIDTH;
@@ -34,7 +34,7 @@ pub(crate) fn case_of(case: &[u32]) -> Case
 // Writes a sheet after the first number of a slice of 14.
 pub(crate) fn put_sheet(out: &mut [u64], sheet: [u64; SHEET])
     requires { ⌜ length (now out) ≡ 14 ⌝ }
-    ensures { λ _. ⌜ (now (out .exit) ≡ splice (now (out .entry)) 1 sheet) × (length sheet ≡ 13) ⌝ }
+    ensures { λ _. ⌜ SheetPut (now (out .entry)) sheet (now (out .exit)) ⌝ }
 {
     let mut i = 0;
     while i < SHEET {

@@ -9,6 +9,7 @@ use lib.Dec.{lit<}
 use lib.ListN.{length, length-append}
 use Rattle.decimals.specs.Decimal.{decimal, padded}
 use Rattle.decimals.specs.Laws.Decimal.{decimal-small, decimal-large}
+use Rattle.splice.specs.Put.{Put}
 use Rattle.splice.specs.Splice.{splice}
 use Rattle.sheet_text.specs.Fixed.{fixed}
 use Rattle.splice.specs.Laws.Splice.{splice-after, splice-again}
@@ -41,11 +42,9 @@ fixed-some (suc d) x h = refl
 
 -- the digits before the point, those after it with a one in front, and the point in the place of the one
 module _ (l : List ℕ) (at d x one p end : ℕ) (l₁ l₂ l₃ : List ℕ) (some : d ≡ 0 → ⊥) (power : one ≡ 10 ^ d)
-    (room : at + length (decimal (x / one)) ≤ length l)
-    (p-is : p ≡ at + length (decimal (x / one))) (l₁-is : l₁ ≡ splice l at (decimal (x / one)))
-    (same : length l₁ ≡ length l)
-    (end-is : end ≡ p + length (decimal (one + x % one))) (l₂-is : l₂ ≡ splice l₁ p (decimal (one + x % one)))
-    (l₃-is : l₃ ≡ splice l₂ p (46 ∷ [])) where
+    (room : at + length (decimal (x / one)) ≤ length l) (same : length l₁ ≡ length l)
+    (before : Put l at (decimal (x / one)) l₁ p) (behind : Put l₁ p (decimal (one + x % one)) l₂ end)
+    (point : l₃ ≡ splice l₂ p (46 ∷ [])) where
   w : List ℕ
   w = decimal (x / one)
 
@@ -61,21 +60,24 @@ module _ (l : List ℕ) (at d x one p end : ℕ) (l₁ l₂ l₃ : List ℕ) (so
   unfolding w after
   whole = ap (λ (k : ℕ). decimal (x / k) ++ 46 ∷ padded d (x % 10 ^ d)) power ∙ sym (fixed-some d x some)
 
-  pub ends : end ≡ at + length (fixed d x)
+  ends : end ≡ at + length (fixed d x)
   unfolding w
   ends =
       let q : length (decimal (one + x % one)) ≡ length (49 ∷ after) = ap length ahead in
       let t : length (w ++ 46 ∷ after) ≡ length w + length (46 ∷ after) = length-append w (46 ∷ after) in
       let f : length (w ++ 46 ∷ after) ≡ length (fixed d x) = ap length whole in
-      omega arith
+      omega (arith, before .place-is, behind .place-is)
 
-  pub written : l₃ ≡ splice l at (fixed d x)
+  written : l₃ ≡ splice l at (fixed d x)
   unfolding w
   written =
-      l₃-is
-      ∙ ap (λ (t : List ℕ). splice t p (46 ∷ [])) (l₂-is ∙ ap (λ (v : List ℕ). splice l₁ p v) ahead)
-      ∙ splice-again l₁ p 49 46 after (omega arith)
-      ∙ ap (λ (t : List ℕ). splice t p (46 ∷ after)) l₁-is
-      ∙ ap (λ (k : ℕ). splice (splice l at w) k (46 ∷ after)) p-is
+      point
+      ∙ ap (λ (t : List ℕ). splice t p (46 ∷ [])) (behind .list-is ∙ ap (λ (v : List ℕ). splice l₁ p v) ahead)
+      ∙ splice-again l₁ p 49 46 after (omega (arith, before .place-is))
+      ∙ ap (λ (t : List ℕ). splice t p (46 ∷ after)) (before .list-is)
+      ∙ ap (λ (k : ℕ). splice (splice l at w) k (46 ∷ after)) (before .place-is)
       ∙ splice-after l at w (46 ∷ after) (omega arith)
       ∙ ap (splice l at) whole
+
+  pub point-put : Put l at (fixed d x) l₃ end
+  point-put = record { place-is = ends; list-is = written }

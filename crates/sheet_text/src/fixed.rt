@@ -2,11 +2,11 @@
 ghost use mathlib.Core.Path.{_≡_};
 ghost use Prim.Native.Nat.{_+_, _^_, _≤_};
 ghost use lib.IntN.{pos};
-ghost use lib.ListN.{length};
 ghost use mir.Syntax.{w32};
 ghost use mir.Val.{toZ};
 ghost use Rattle.splice.specs.Put.{Put};
 ghost use Rattle.sheet_text.specs.Fixed.{fixed, number, signed};
+ghost use Rattle.sheet_text.specs.Laws.Steps.{FractionFits};
 use decimals::put_byte;
 use decimals::put_decimal;
 
@@ -56,7 +56,7 @@ fn power_of_ten(n: usize) -> u64
 // none. The digits after the point are written with a one in front of them, which keeps their
 // zeros; the point then takes the one's place.
 pub fn put_fixed(out: &mut [u8], at: usize, x: u64, decimals: usize) -> usize
-    requires { ⌜ (at + 40 ≤ length (now out)) × (decimals ≤ 16) ⌝ }
+    requires { ⌜ FractionFits (now out) (at + 40) decimals ⌝ }
     ensures { λ r. ⌜ Put (now (out .entry)) at (fixed decimals x) (now (out .exit)) r ⌝ }
 {
     if decimals == 0 {
@@ -71,7 +71,7 @@ pub fn put_fixed(out: &mut [u8], at: usize, x: u64, decimals: usize) -> usize
 
 // The same with a minus sign where the value is below zero.
 pub fn put_signed(out: &mut [u8], at: usize, v: Value, decimals: usize) -> usize
-    requires { ⌜ (at + 41 ≤ length (now out)) × (decimals ≤ 16) ⌝ }
+    requires { ⌜ FractionFits (now out) (at + 41) decimals ⌝ }
     ensures { λ r. ⌜ Put (now (out .entry)) at (signed decimals v) (now (out .exit)) r ⌝ }
 {
     if v.negative {

@@ -2,6 +2,7 @@
 // values stand below each other.
 ghost use Prim.Native.Nat.{_≤_};
 ghost use lib.ListN.{length};
+ghost use Rattle.sheet_text.specs.Laws.Steps.{FractionFits};
 use crate::fixed::Value;
 use crate::fixed::put_signed;
 use crate::rows::put_gap;
@@ -24,7 +25,7 @@ fn tail(decimals: usize) -> usize
 // points stand below each other. It is written aside first, since its length decides how many
 // blanks stand before it.
 fn put_value(out: &mut [u8], at: usize, v: Value, decimals: usize, width: usize) -> usize
-    requires { ⌜ (at ≤ length (now out)) × (decimals ≤ 16) ⌝ }
+    requires { ⌜ FractionFits (now out) at decimals ⌝ }
     ensures { λ r. ⌜ r ≤ length (now (out .entry)) ⌝ }
 {
     let mut aside = [0u8; 41];
@@ -45,7 +46,7 @@ pub fn put_line(
     decimals: usize,
     width: usize,
 ) -> usize
-    requires { ⌜ (at ≤ length (now out)) × (decimals ≤ 16) ⌝ }
+    requires { ⌜ FractionFits (now out) at decimals ⌝ }
     ensures { λ r. ⌜ r ≤ length (now (out .entry)) ⌝ }
 {
     let from = row_start(labels, n);

@@ -4,11 +4,9 @@ ghost use mathlib.Core.Path.{_≡_};
 ghost use Prim.Native.Nat.{_≤_};
 ghost use lib.ListN.{length};
 ghost use Rattle.text.specs.Answer.{answer, noCase};
-ghost use Rattle.text.specs.Gather.{piece};
 ghost use Rattle.text.specs.Line.{fields, readLine, says, textLength};
 ghost use Rattle.fields.specs.Fields.{width};
-ghost use Rattle.text.specs.Number.{readNumber};
-ghost use Rattle.text.specs.Words.{isInk, runEnd};
+ghost use Rattle.text.specs.Laws.Leading.{WordAt};
 use crate::number::LARGEST;
 use crate::number::Reading;
 use crate::number::is_number;
@@ -55,8 +53,7 @@ struct Word {
 // to its end and then read.
 fn read_word(s: &[u8], from: usize) -> Word
     requires { ⌜ from ≤ length (now s) ⌝ }
-    ensures { λ r. ⌜ (r .to ≡ runEnd isInk (now (s .entry)) from)
-        × (r .said ≡ readNumber (piece from (r .to) (now (s .entry)))) ⌝ }
+    ensures { λ r. ⌜ WordAt (now (s .entry)) from (r .to) (r .said) ⌝ }
 {
     if 10 <= s.len() - from {
         let digits = leading_digits(s, from);

@@ -7,7 +7,7 @@ use Rattle.decimals.proofs.put_byte.Statement.{statement}
 use Rattle.decimals.proofs.put_byte.Tie as tie
 
 returns : tie.Need-returns
-returns c = (refl, splice-one _ _ _ (c .pre))
+returns c = record { place-is = refl; list-is = splice-one _ _ _ (c .pre) }
 
 pub put-byte-spec : {M : Type 1} → statement M
 put-byte-spec = tie.close (tie.spec (λ c. search needs) (λ c. search needs) (λ c. search needs) returns)

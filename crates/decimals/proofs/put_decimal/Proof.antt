@@ -27,17 +27,17 @@ front-in-parts l at x inside large front middle =
 room-after-front : tie.Need-put-eight-requires
 room-after-front c κs =
     let x = c .before .before .before .before .before .before .before .before .args .x in
-    (omega (arith, count-below 7 (x / 100000000) (omega arith)), omega arith)
+    record { room = omega (arith, count-below 7 (x / 100000000) (omega arith)); small = omega arith }
 
 room-after-four : tie.Need-put-eight-requires-2
 room-after-four c κs =
     let x = c .before .before .before .before .before .before .before .before .args .x in
-    (omega (arith, count-below 3 (x / 10000000000000000) (omega arith)), omega arith)
+    record { room = omega (arith, count-below 3 (x / 10000000000000000) (omega arith)); small = omega arith }
 
 room-after-twelve : tie.Need-put-eight-requires-3
 room-after-twelve c κs =
     let x = c .before .before .before .before .before .before .before .before .before .before .before .before .args .x in
-    (omega (arith, count-below 3 (x / 10000000000000000) (omega arith)), omega arith)
+    record { room = omega (arith, count-below 3 (x / 10000000000000000) (omega arith)); small = omega arith }
 
 in-two-parts : tie.Need-returns-2
 in-two-parts c =

@@ -23,6 +23,6 @@ put-leading-spec =
     (λ c. search needs)
     (λ c. search needs)
     (λ c. search needs)
-    (λ c. (omega arith, stored _ _ _ _ (c .before .before .before .pre) (c .before .digit .ensures)))
+    (λ c. record { place-is = omega arith; list-is = stored _ _ _ _ (c .before .before .before .pre) (c .before .digit .ensures) })
     (λ c. search needs)
-    (λ c. (omega arith, stored _ _ _ _ (c .before .before .before .pre) (c .before .digit .ensures))))
+    (λ c. record { place-is = omega arith; list-is = stored _ _ _ _ (c .before .before .before .pre) (c .before .digit .ensures) }))

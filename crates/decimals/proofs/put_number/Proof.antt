@@ -20,11 +20,9 @@ returns c =
     let digits = c .before .before in
     let blank = digits .before .before .before .before in
     let start = blank .before .before .before in
-    let x = start .args .x in (
-      put-as _ _ (one x)
-          (put-then _ _ (32 ∷ []) (decimal x) (omega arith) (blank .put-byte .ensures) (digits .put-decimal .ensures)),
-      omega (arith, count-64 x (start .fits .x .fits)),
-    )
+    let x = start .args .x in
+    let both = put-then _ _ (32 ∷ []) (decimal x) (omega arith) (blank .put-byte .ensures) (digits .put-decimal .ensures) in
+    record { put = put-as _ _ (one x) both; within = omega (arith, count-64 x (start .fits .x .fits)) }
 
 pub put-number-spec : {M : Type 1} → statement M
 put-number-spec = tie.close (tie.spec (λ c κs. search needs) (λ c κs. search needs) (λ c. search needs) returns)

@@ -11,7 +11,7 @@ use Rattle.decimals.proofs.put_to_eight.Tie as tie
 room-for-four : tie.Need-put-four-requires
 room-for-four c κs =
     let x = c .before .before .before .before .before .before .before .args .x in
-    (omega (arith, count-below 3 (x / 10000) (omega arith)), omega arith)
+    record { room = omega (arith, count-below 3 (x / 10000) (omega arith)); small = omega arith }
 
 in-two-parts : tie.Need-returns-2
 in-two-parts c =

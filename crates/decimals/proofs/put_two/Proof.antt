@@ -23,8 +23,9 @@ returns c =
     let start = first .before .before .before .before in
     let a = first .before .digit in
     let b = second .before .digit2 in
-    put-as _ _ (two (start .args .x) (a .result) (b .result) (start .pre .1) (a .ensures) (b .ensures))
-    (put-then _ _ (a .result ∷ []) (b .result ∷ []) (omega arith) (first .put-byte .ensures) (second .put-byte2 .ensures))
+    let digits = two (start .args .x) (a .result) (b .result) (start .pre .small) (a .ensures) (b .ensures) in
+    let both = put-then _ _ (a .result ∷ []) (b .result ∷ []) (omega arith) (first .put-byte .ensures) (second .put-byte2 .ensures) in
+    record { place-is = both .place-is; list-is = put-as _ _ digits both .list-is }
 
 pub put-two-spec : {M : Type 1} → statement M
 put-two-spec =

@@ -30,30 +30,40 @@ pub record Ready (l : List ℕ) (at y : ℕ) (m : List ℕ) (r : ℕ) : Type 0 w
 
 pub ready-first : (l : List ℕ) (at : ℕ) → at ≤ length l → Ready l at 0 l at
 unfolding ahead
-ready-first l at h = record { inside = h; next = λ d. (refl, refl) }
+ready-first l at h = record { inside = h; next = λ d. record { place-is = refl; list-is = refl } }
 
 -- the last digit of x, after those ahead of it
 pub ready-last : {l : List ℕ} {at : ℕ} {m n : List ℕ} {p r : ℕ} (x q : ℕ) → x / 10 ≡ q → Ready l at q m p
     → Put m p ((x % 10 + 48) ∷ []) n r → Put l at (decimal x) n r
 ready-last {l} {at} x q e f g =
-    let h = f .next (x % 10 + 48) in put-as l at (sym (decimal-last x q e)) (g .0 ∙ h .0, g .1 ∙ h .1)
+    let h = f .next (x % 10 + 48) in
+    put-as l at (sym (decimal-last x q e)) (record { place-is = g .place-is ∙ h .place-is; list-is = g .list-is ∙ h .list-is })
+
+-- a step's store: the last digit of y stands in l at `at`, which makes l to m, and r is the place after it, or its own where y is 0
+pub record PutLeading (l : List ℕ) (at y : ℕ) (m : List ℕ) (r : ℕ) : Type 0 where
+  pub place-is : r ≡ at + min y 1
+  pub list-is : m ≡ splice l at ((y % 10 + 48) ∷ [])
 
 -- the last digit of y, after those ahead of it; where y is 0, the next byte takes its place
 pub ready-next : {l : List ℕ} {at : ℕ} {m n : List ℕ} {p r : ℕ} (y q : ℕ) → y / 10 ≡ q → Ready l at q m p
-    → (r ≡ p + min y 1) × (n ≡ splice m p ((y % 10 + 48) ∷ [])) → Ready l at y n r
+    → PutLeading m p y n r → Ready l at y n r
 unfolding ahead
 ready-next {l} {at} {r = r} zero zero e f g =
     let with-zero = f .next 48 in
-    let same : r ≡ at = omega (arith, with-zero .0) in
+    let same : r ≡ at = omega (arith, with-zero .place-is) in
     record {
       inside = f .inside;
-      next = λ d. (
-        ap (λ (k : ℕ). k + 1) same,
-        ap₂ (λ (t : List ℕ) (k : ℕ). splice t k (d ∷ [])) (g .1 ∙ with-zero .1) same ∙ splice-again l at 48 d [] (f .inside),
-      );
+      next = λ d.
+          record {
+            place-is = ap (λ (k : ℕ). k + 1) same;
+            list-is =
+                ap₂ (λ (t : List ℕ) (k : ℕ). splice t k (d ∷ [])) (g .list-is ∙ with-zero .list-is) same
+                ∙ splice-again l at 48 d [] (f .inside);
+          };
     }
 ready-next zero (suc q) e f g = absurd (omega arith)
-ready-next {l} {at} {p = p} {r = r} (suc y) q e f g =
+ready-next {l} {at} {n = n} {p = p} {r = r} (suc y) q e f g =
     let moved : r ≡ p + 1 = omega arith in
-    let whole = ready-last (suc y) q e f (moved, g .1) in
-    record { inside = f .inside; next = λ d. put-then l at (decimal (suc y)) (d ∷ []) (f .inside) whole (refl, refl) }
+    let whole = ready-last (suc y) q e f (record { place-is = moved; list-is = g .list-is }) in
+    let byte : (d : ℕ) → Put n r (d ∷ []) (splice n r (d ∷ [])) (r + 1) = λ d. record { place-is = refl; list-is = refl } in
+    record { inside = f .inside; next = λ d. put-then l at (decimal (suc y)) (d ∷ []) (f .inside) whole (byte d) }

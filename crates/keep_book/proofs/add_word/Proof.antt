@@ -24,18 +24,18 @@ module _ (b w : List ℕ) (at : ℕ) {m n : List ℕ} {p r : ℕ} where
   no-room : length b - at ≡ 0 → Put b at (kept 0 0 1 (32 ∷ [])) m p → Put m p (take (length m - p) w) n r → Put b at [] n r
   unfolding kept
   no-room e f g =
-      let same : m ≡ b = f .1 ∙ splice-nothing b at in
+      let same : m ≡ b = f .list-is ∙ splice-nothing b at in
       let none : length m - p ≡ 0 = omega (arith, ap length same) in
       let nothing = put-as m p (ap (λ (k : ℕ). take k w) none) g in
-      (omega (arith, nothing .0), nothing .1 ∙ splice-nothing m p ∙ f .1)
+      record { place-is = omega (arith, nothing .place-is); list-is = nothing .list-is ∙ splice-nothing m p ∙ f .list-is }
 
   some-room : (k : ℕ) → length b - at ≡ suc k → Put b at (kept (suc k) 0 1 (32 ∷ [])) m p → Put m p (take (length m - p) w) n r
       → Put b at (32 ∷ take k w) n r
   unfolding kept piece
   some-room k e f g =
       let blank = put-as b at (take-all (suc k) (32 ∷ []) (omega arith)) f in
-      let long = ap length (blank .1) ∙ splice-length b at (32 ∷ []) (omega arith) in
-      let left : length m - p ≡ k = omega (arith, long, blank .0) in
+      let long = ap length (blank .list-is) ∙ splice-length b at (32 ∷ []) (omega arith) in
+      let left : length m - p ≡ k = omega (arith, long, blank .place-is) in
       put-then b at (32 ∷ []) (take k w) (omega arith) blank (put-as m p (ap (λ (j : ℕ). take j w) left) g)
 
   both-kept : Put b at (kept (length b - at) 0 1 (32 ∷ [])) m p → Put m p (take (length m - p) w) n r

@@ -2,6 +2,7 @@
 use mathlib.Core.List.{List}
 use mathlib.Core.Path.{_≡_, sym, ap, subst, _∙_}
 use Prim.Native.Nat.{ℕ, _≤_}
+use native.Mathlib.Nat.{zero-add}
 use native.Mathlib.Omega.{arith}
 use lib.ListN.{length}
 use Rattle.book.specs.declared.accept.Acceptance.{Acceptance}
@@ -11,6 +12,8 @@ use Rattle.book_laws.specs.Book.{acceptOf}
 use Rattle.book_laws.specs.Laws.Accept.{Counted, count-within}
 use Rattle.book_laws.specs.Layout.{rbk1}
 use Rattle.splice.specs.Splice.{splice}
+use Rattle.splice.specs.Put.{Put}
+use Rattle.splice.specs.Laws.Put.{put-as}
 use Rattle.splice.specs.Laws.Splice.{splice-length}
 use Rattle.list_text.specs.Listing.{listingFor, listingOf}
 use borrow.Author.Needs.{needs}
@@ -21,32 +24,34 @@ room : (b : List ℕ) (used : ℕ) {a : Acceptance} → acceptanceOf a ≡ accep
 room b used {a} is = subst (Counted rbk1 b) (sym is) (count-within rbk1 b used (a .named))
 
 -- a listing that has room leaves the buffer as long
-as-long : (l vs : List ℕ) {m : List ℕ} {r : ℕ} → (r ≡ length vs) × (m ≡ splice l 0 vs) → r ≤ length l → length m ≡ length l
-as-long l vs put h = ap length (put .1) ∙ splice-length l 0 vs (omega (arith, put .0))
+as-long : (l vs : List ℕ) {m : List ℕ} {r : ℕ} → Put l 0 vs m r → r ≤ length l → length m ≡ length l
+as-long l vs put h = ap length (put .list-is) ∙ splice-length l 0 vs (omega (arith, put .place-is))
 
 listed :
     (b : List ℕ) (used : ℕ) (l : List ℕ) {a : Acceptance} {m : List ℕ} {r : ℕ} → acceptanceOf a ≡ acceptOf b used (a .named) →
-    (r ≡ length (listingFor rbk1 b (acceptanceOf a))) × (m ≡ splice l 0 (listingFor rbk1 b (acceptanceOf a))) →
+    Put l 0 (listingFor rbk1 b (acceptanceOf a)) m r →
     (r ≡ length (listingOf b used (a .named))) × (m ≡ splice l 0 (listingOf b used (a .named)))
 unfolding listingOf
 listed b used l {a} is put =
-    let same = ap (listingFor rbk1 b) is in (put .0 ∙ ap length same, put .1 ∙ ap (splice l 0) same)
+    let whole = put-as l 0 (ap (listingFor rbk1 b) is) put in (whole .place-is ∙ zero-add _, whole .list-is)
 
 put-listing-requires : tie.Need-put-listing-requires
 put-listing-requires c κs =
     let accepted = c .before .before in
-    let counted = room _ _ (accepted .accept .ensures .0) in
-    (omega (arith, counted .within), counted .within, counted .most)
+    let counted = room _ _ (accepted .accept .ensures .answer-is) in
+    record { room = omega (arith, counted .within); inside = counted .within; count-most = counted .most }
 
 returns : tie.Need-returns
 returns c =
     let accepted = c .before .before .before in
-    let is = accepted .accept .ensures .0 in
-    let short : c .put-listing .result ≤ 65536 = omega (arith, c .put-listing .ensures .1, room _ _ is .within) in (
-      listed _ _ _ is (c .put-listing .ensures .0),
+    let answered = accepted .accept .ensures in
+    let is = answered .answer-is in
+    let listing = c .put-listing .ensures in
+    let short : c .put-listing .result ≤ 65536 = omega (arith, listing .within, room _ _ is .within) in (
+      listed _ _ _ is (listing .put),
       (
-        λ is-23. accepted .accept .ensures .1 (ap (λ (p : Paper.Acceptance). p .number) is ∙ is-23),
-        (short, omega (arith, as-long _ _ (c .put-listing .ensures .0) (omega (arith, short)))),
+        λ is-23. answered .differs (ap (λ (p : Paper.Acceptance). p .number) is ∙ is-23),
+        (short, omega (arith, as-long _ _ (listing .put) (omega (arith, short)))),
       ),
     )
 

@@ -21,10 +21,11 @@ returns c =
     let words = digits .before .before .before .before in
     let start = words .before .before .before .before in
     let n = start .args .number in
-    let two = put-then _ _ _ (decimal n) (omega (arith, start .pre)) (words .put-bytes .ensures) (digits .put-decimal .ensures) in (
-      put-then _ _ _ (10 ∷ []) (omega (arith, start .pre)) two (ended .put-byte .ensures),
-      omega (arith, count-64 n (start .fits .number .fits)),
-    )
+    let two = put-then _ _ _ (decimal n) (omega (arith, start .pre)) (words .put-bytes .ensures) (digits .put-decimal .ensures) in
+    record {
+      put = put-then _ _ _ (10 ∷ []) (omega (arith, start .pre)) two (ended .put-byte .ensures);
+      within = omega (arith, count-64 n (start .fits .number .fits));
+    }
 
 pub put-line-spec : {M : Type 1} → statement M
 put-line-spec =

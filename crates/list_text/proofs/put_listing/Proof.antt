@@ -1,16 +1,12 @@
 -- `list_text::put_listing` meets its contract: the first line and the records, or the refusal. Assumes nothing.
 use mathlib.Core.List.{List, _++_}
-use mathlib.Core.Path.{_≡_, refl, _∙_}
+use mathlib.Core.Path.{_≡_, refl}
 use Prim.Native.Nat.{ℕ}
-use native.Mathlib.Nat.{zero-add}
 use native.Mathlib.Omega.{arith}
-use lib.ListN.{length}
 use borrow.Author.Tests.{eq-eqb, ne-eqb}
 use Rattle.book.specs.declared.accept.Acceptance.{Acceptance}
 use Rattle.book.specs.Answers.{acceptanceOf}
 use Rattle.book_laws.specs.Layout.{rbk1}
-use Rattle.splice.specs.Splice.{splice}
-use Rattle.splice.specs.Put.{Put}
 use Rattle.splice.specs.Laws.Put.{put-as, put-then}
 use Rattle.list_text.specs.Listing.{recordLines, bookLine, refusedLine, disagreesLine, listingFor}
 use borrow.Author.Needs.{needs}
@@ -30,10 +26,6 @@ module _ (b : List ℕ) (a : Acceptance) where
   unfolding listingFor
   of-refusal given not-23 = simp (ne-eqb _ 0 given, ne-eqb _ 23 not-23)
 
--- what is put at 0
-at-front : (l : List ℕ) {vs ws m : List ℕ} {r : ℕ} → vs ≡ ws → Put l 0 vs m r → (r ≡ length ws) × (m ≡ splice l 0 ws)
-at-front l is put = let whole = put-as l 0 is put in (whole .0 ∙ zero-add _, whole .1)
-
 returns : tie.Need-returns
 unfolding bookLine
 returns c =
@@ -41,26 +33,32 @@ returns c =
     let line = records .before .before .before .before in
     let start = line .before .before .before .before .before .before .before in
     let a = start .args .a in
-    let book = put-then _ _ (bookLine (a .count)) _ (omega arith) (line .put-line .ensures .0) (records .put-records .ensures .0) in (
-      at-front _ (of-book _ a (line .before .before .before .if1 .taken)) book,
-      omega (arith, line .put-line .ensures .1, records .put-records .ensures .1),
-    )
+    let first = line .put-line .ensures in
+    let rest = records .put-records .ensures in
+    let book = put-then _ _ (bookLine (a .count)) _ (omega arith) (first .put) (rest .put) in
+    record {
+      put = put-as _ _ (of-book _ a (line .before .before .before .if1 .taken)) book;
+      within = omega (arith, first .within, rest .within);
+    }
 
 returns-2 : tie.Need-returns-2
 unfolding disagreesLine
 returns-2 c =
     let line = c .before .before in
     let tested = line .before .before .before in
-    (at-front _ (of-23 _ _ (tested .if2 .taken)) (line .put-line2 .ensures .0), omega (arith, line .put-line2 .ensures .1))
+    let whole = line .put-line2 .ensures in
+    record { put = put-as _ _ (of-23 _ _ (tested .if2 .taken)) (whole .put); within = omega (arith, whole .within) }
 
 returns-3 : tie.Need-returns-3
 unfolding refusedLine
 returns-3 c =
     let line = c .before .before in
-    let tested = line .before .before .before .before in (
-      at-front _ (of-refusal _ _ (tested .before .before .if1 .left) (tested .if2 .left)) (line .put-line3 .ensures .0),
-      omega (arith, line .put-line3 .ensures .1),
-    )
+    let tested = line .before .before .before .before in
+    let whole = line .put-line3 .ensures in
+    record {
+      put = put-as _ _ (of-refusal _ _ (tested .before .before .if1 .left) (tested .if2 .left)) (whole .put);
+      within = omega (arith, whole .within);
+    }
 
 pub put-listing-spec : {M : Type 1} → statement M
 put-listing-spec =

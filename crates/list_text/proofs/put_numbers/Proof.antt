@@ -40,10 +40,10 @@ returns c =
     let number = decimal (a .number) in
     let answer = spaced (a .answer ∷ []) in
     let rating = spaced (a .rating ∷ []) in
-    let two = put-then _ _ number answer (omega arith) (first .put-decimal .ensures) (second .put-number .ensures .0) in
-    let three = put-then _ _ (number ++ answer) rating (omega arith) two (third .put-number2 .ensures .0) in
+    let two = put-then _ _ number answer (omega arith) (first .put-decimal .ensures) (second .put-number .ensures .put) in
+    let three = put-then _ _ (number ++ answer) rating (omega arith) two (third .put-number2 .ensures .put) in
     let four = put-then _ _ (number ++ answer ++ rating) (10 ∷ []) (omega arith) three (fourth .put-byte .ensures) in
-    (put-as _ _ (whole (a .number) (a .answer) (a .rating)) four, omega (arith, short first))
+    record { put = put-as _ _ (whole (a .number) (a .answer) (a .rating)) four; within = omega (arith, short first) }
 
 pub put-numbers-spec : {M : Type 1} → statement M
 put-numbers-spec =

@@ -4,7 +4,7 @@ use mathlib.Core.Path.{_≡_, ap₂}
 use Prim.Native.Nat.{ℕ, _+_}
 use Rattle.book_laws.specs.Layout.{rbk1}
 use Rattle.book_laws.specs.Record.{placeFrom, answerAt, ratingAt}
-use Rattle.splice.specs.Laws.Put.{put-as}
+use Rattle.splice.specs.Laws.Put.{put-within-as}
 use Rattle.decimals.specs.Decimal.{written}
 use Rattle.list_text.specs.Listing.{recordLine}
 use borrow.Author.Needs.{needs}
@@ -24,7 +24,7 @@ returns c =
     let second = put .before in
     let first = second .before in
     let line = line-is _ _ _ (first .answer-at .ensures) (second .rating-at .ensures) in
-    (put-as _ _ line (put .put-numbers .ensures .0), put .put-numbers .ensures .1)
+    put-within-as _ _ line (put .put-numbers .ensures)
 
 pub put-record-spec : {M : Type 1} → statement M
 put-record-spec =

@@ -4,7 +4,7 @@ use mathlib.Core.List.{List}
 use mathlib.Core.Path.{_≡_, ap, _∙_}
 use Prim.Native.Nat.{ℕ}
 use borrow.Author.Needs.{needs}
-use Rattle.splice.specs.Laws.Put.{put-as}
+use Rattle.splice.specs.Laws.Put.{put-within-as}
 use Rattle.rate_text.specs.Answers.{printedFor, printed}
 use Rattle.text.specs.declared.line.Read.{Read}
 use Rattle.text.specs.Answer.{answer, saidOf}
@@ -20,7 +20,7 @@ prints k line r e = ap (printedFor k) (ap saidOf e ∙ said-answer (readLine lin
 returns : tie.Need-returns
 returns c =
     let done = c .before .before in
-    (put-as _ _ (prints _ _ _ (done .before .read-line .ensures)) (done .print-said .ensures .0), done .print-said .ensures .1)
+    put-within-as _ _ (prints _ _ _ (done .before .read-line .ensures)) (done .print-said .ensures)
 
 pub print-line-spec : {M : Type 1} → statement M
 print-line-spec = tie.close (tie.spec (λ c κs. search needs) (λ c κs. search needs) (λ c. search needs) returns)

@@ -6,7 +6,7 @@ use Prim.Native.Nat.{ℕ}
 use native.Mathlib.Omega.{arith}
 use borrow.Author.Needs.{needs}
 use borrow.Author.Tests.{eq-eqb, ne-eqb}
-use Rattle.splice.specs.Laws.Put.{put-as, put-nothing}
+use Rattle.splice.specs.Laws.Put.{put-as, put-within-as, put-nothing}
 use Rattle.rate_text.specs.Answers.{textOf, unreadableText, printedFor}
 use Rattle.rating.specs.Rate.{Answer, rateOf}
 use Rattle.text.specs.declared.line.Read.{Read}
@@ -32,20 +32,20 @@ case-printed c =
     let done = c .before .before in
     let rated = done .before in
     let text = the-answer _ _ _ (rated .rate .ensures) (rated .before .before .before .if2 .taken) in
-    (put-as _ _ text (done .put-answer .ensures .0), done .put-answer .ensures .1)
+    put-within-as _ _ text (done .put-answer .ensures)
 
 unreadable-printed : tie.Need-returns-3
 unreadable-printed c =
     let done = c .before .before in
     let at-test = done .before .before in
     let text = complaint _ _ (at-test .before .before .if1 .left) (at-test .if2 .left) in
-    (put-as _ _ text (done .put-unreadable .ensures .0), done .put-unreadable .ensures .1)
+    put-within-as _ _ text (done .put-unreadable .ensures)
 
 pub print-said-spec : {M : Type 1} → statement M
 print-said-spec =
     tie.close
     (tie.spec
-    (λ c. (put-as _ _ (nothing _ _ (c .if1 .taken)) (put-nothing _ _), omega arith))
+    (λ c. record { put = put-as _ _ (nothing _ _ (c .if1 .taken)) (put-nothing _ _); within = omega arith })
     (λ c κs. search needs)
     (λ c κs. search needs)
     (λ c. search needs)

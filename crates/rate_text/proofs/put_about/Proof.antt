@@ -22,10 +22,11 @@ all-put c =
     let first = second .before .before .before .before in
     let start = first .before .before .before .before .before in
     let k = start .args .number in
-    let two = put-then _ _ _ (decimal k) (omega arith) (first .put-bytes .ensures) (second .put-decimal .ensures) in (
-      put-then _ _ _ _ (omega arith) two (third .put-bytes2 .ensures),
-      omega (arith, count-64 k (start .fits .number .fits)),
-    )
+    let two = put-then _ _ _ (decimal k) (omega arith) (first .put-bytes .ensures) (second .put-decimal .ensures) in
+    record {
+      put = put-then _ _ _ _ (omega arith) two (third .put-bytes2 .ensures);
+      within = omega (arith, count-64 k (start .fits .number .fits));
+    }
 
 pub put-about-spec : {M : Type 1} → statement M
 put-about-spec =

@@ -35,10 +35,10 @@ all-put c =
     let answer = decimal (a .answer) in
     let rating = spaced (a .rating ∷ []) in
     let sheet = spaced (a .sheet) in
-    let two = put-then _ _ answer rating (omega arith) (first .put-decimal .ensures) (second .put-number .ensures .0) in
-    let three = put-then _ _ (answer ++ rating) sheet (omega arith) two (third .put-sheet .ensures .0) in
+    let two = put-then _ _ answer rating (omega arith) (first .put-decimal .ensures) (second .put-number .ensures .put) in
+    let three = put-then _ _ (answer ++ rating) sheet (omega arith) two (third .put-sheet .ensures .put) in
     let four = put-then _ _ (answer ++ rating ++ sheet) (10 ∷ []) (omega arith) three (fourth .put-byte .ensures) in
-    (put-as _ _ (whole (a .answer) (a .rating) (a .sheet)) four, omega (arith, short first))
+    record { put = put-as _ _ (whole (a .answer) (a .rating) (a .sheet)) four; within = omega (arith, short first) }
 
 pub put-answer-spec : {M : Type 1} → statement M
 put-answer-spec =

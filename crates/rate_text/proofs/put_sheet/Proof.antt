@@ -8,16 +8,21 @@ use native.Mathlib.Numerals.{add-one}
 use native.Mathlib.Omega.{arith}
 use lib.ListN.{length, getD, take}
 use lib.Seq.{take-suc, take-all}
-use Rattle.splice.specs.Put.{Put}
+use Rattle.splice.specs.Put.{Put, PutWithin}
 use Rattle.splice.specs.Laws.Put.{put-as, put-nothing, put-then}
 use Rattle.decimals.specs.Decimal.{spaced}
 use Rattle.decimals.specs.Laws.Decimal.{spaced-append}
 use Rattle.rate_text.proofs.put_sheet.Statement.{statement}
 use Rattle.rate_text.proofs.put_sheet.Tie as tie
 
+record Numbers (out₀ : List ℕ) (at : ℕ) (xs out : List ℕ) (end i : ℕ) : Type 0 where
+  pub so-many : i ≤ 13
+  pub as-long : length out ≡ length out₀
+  pub numbers : PutWithin out₀ at (spaced (take i xs)) out end (at + 21 * i)
+
 abbrev Inv-loop : tie.InvT-loop
 Inv-loop out₀ at xs end₀ i₀ out end i =
-    (i ≤ 13) × (end ≤ at + 21 * i) × (length out ≡ length out₀) × Put out₀ at (spaced (take i xs)) out end
+    Numbers out₀ at xs out end i
 
 abbrev μ-loop : tie.MeasureT-loop
 μ-loop out₀ at xs end₀ i₀ out end i = 13 - i
@@ -38,14 +43,19 @@ one-more-put c =
     let at-loop = call .before .before .before in
     let xs = at-loop .before .before .args .t3 in
     let i = at-loop .loop .i in
-    let joined = put-then _ _ _ _ (omega arith) (at-loop .loop .inv .3) (call .put-number .ensures .0) in
-    (omega arith, omega arith, omega arith, put-as _ _ (next xs i (omega arith)) joined)
+    let number = call .put-number .ensures in
+    let joined = put-then _ _ _ _ (omega arith) (at-loop .loop .inv .numbers .put) (number .put) in
+    record {
+      so-many = omega arith;
+      as-long = omega arith;
+      numbers = record { put = put-as _ _ (next xs i (omega arith)) joined; within = omega (arith, number .within) };
+    }
 
 all-put : tie.Need-returns Inv-loop μ-loop
 all-put c =
     let at-loop = c .before .loop in
     let xs = c .before .before .before .args .t3 in
-    (put-as _ _ (ap spaced (take-all (at-loop .i) xs (omega arith))) (at-loop .inv .3), omega arith)
+    record { put = put-as _ _ (ap spaced (take-all (at-loop .i) xs (omega arith))) (at-loop .inv .numbers .put); within = omega arith }
 
 pub put-sheet-spec : {M : Type 1} → statement M
 put-sheet-spec =
@@ -53,7 +63,7 @@ put-sheet-spec =
     (tie.spec
     Inv-loop
     μ-loop
-    (λ c. (omega arith, omega arith, refl, nothing-put _ _))
+    (λ c. record { so-many = omega arith; as-long = refl; numbers = record { put = nothing-put _ _; within = omega arith } })
     (λ c. omega arith)
     (λ c. omega arith)
     (λ c κs. omega arith)

@@ -7,7 +7,7 @@ use Rattle.rate_text.proofs.put_unreadable.Tie as tie
 
 returns : tie.Need-returns
 unfolding unreadableText
-returns c = (c .before .before .put-about .ensures .0, omega arith)
+returns c = record { put = c .before .before .put-about .ensures .put; within = omega arith }
 
 pub put-unreadable-spec : {M : Type 1} → statement M
 put-unreadable-spec = tie.close (tie.spec (λ c. search needs) (λ c κs. search needs) (λ c. search needs) returns)

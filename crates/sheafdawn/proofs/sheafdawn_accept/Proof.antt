@@ -6,9 +6,9 @@ use native.Mathlib.Omega.{arith}
 use lib.ListN.{length, getD}
 use denote.Ref.{now}
 use borrow.Author.Tests.{eq-eqb, ne-eqb}
-use Rattle.book_laws.specs.Book.{acceptOf, Differs}
+use Rattle.book_laws.specs.Book.{Differs}
 use Rattle.book.specs.declared.accept.Acceptance.{Acceptance}
-use Rattle.book.specs.Answers.{acceptanceOf}
+use Rattle.book.specs.Answers.{AcceptAnswers}
 use Rattle.sheafdawn.specs.Calls.{call, called, acceptCall}
 use Rattle.sheafdawn.proofs.Outs.{three-places}
 use borrow.Author.Needs.{needs}
@@ -17,12 +17,11 @@ use Rattle.sheafdawn.proofs.sheafdawn_accept.Tie as tie
 
 called-right :
     (b : List ℕ) (used : ℕ) (out : List ℕ) {r : Acceptance} {m : List ℕ} → length out ≡ 3 →
-    (acceptanceOf r ≡ acceptOf b used (r .named)) × (r .number ≡ 23 → Differs b used (r .named)) →
-    m ≡ r .count ∷ r .note ∷ r .named ∷ [] →
+    AcceptAnswers b used r → m ≡ r .count ∷ r .note ∷ r .named ∷ [] →
     (call (r .number) m ≡ acceptCall b used (getD m 2 0) out) × (r .number ≡ 23 → Differs b used (getD m 2 0))
 unfolding acceptCall called
 called-right b used out is-3 answered wrote =
-    rw wrote (rw (← answered .0) (sym (simp (eq-eqb _ _ is-3))), answered .1)
+    rw wrote (rw (← answered .answer-is) (sym (simp (eq-eqb _ _ is-3))), answered .differs)
 
 returns : tie.Need-returns
 unfolding acceptCall called

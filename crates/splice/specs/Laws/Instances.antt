@@ -6,7 +6,7 @@ use lib.Dec.{lit<, lit≤}
 use lib.ListN.{length, getD, take, drop, set}
 use lib.Seq.{sets}
 use Rattle.splice.specs.Splice.{splice}
-use Rattle.splice.specs.Put.{Put}
+use Rattle.splice.specs.Put.{Put, PutWithin}
 use Rattle.splice.specs.Laws.Splice.{
   splice-length,
   splice-before,
@@ -18,7 +18,7 @@ use Rattle.splice.specs.Laws.Splice.{
   splice-sets,
   copy-one,
 }
-use Rattle.splice.specs.Laws.Put.{put-nothing, put-as, put-then}
+use Rattle.splice.specs.Laws.Put.{put-nothing, put-as, put-within-as, put-then}
 
 abbrev six : List ℕ
 six = 1 ∷ 2 ∷ 3 ∷ 4 ∷ 5 ∷ 6 ∷ []
@@ -49,13 +49,16 @@ anew : splice (splice six 1 part) 1 (9 ∷ []) ≡ splice six 1 (9 ∷ 8 ∷ [])
 anew = splice-again six 1 7 9 (8 ∷ []) (lit≤ tt)
 
 written : Put six 1 part (splice six 1 part) 3
-written = (refl, refl)
+written = record { place-is = refl; list-is = refl }
 
 both-written : Put six 1 (part ++ part) (splice (splice six 1 part) 3 part) 5
-both-written = put-then six 1 part part (lit≤ tt) written (refl, refl)
+both-written = put-then six 1 part part (lit≤ tt) written (record { place-is = refl; list-is = refl })
 
 same-written : Put six 2 [] six 2
 same-written = put-as six 2 refl (put-nothing six 2)
+
+written-within : PutWithin six 1 part (splice six 1 part) 3 4
+written-within = put-within-as six 1 refl (record { put = written; within = lit≤ tt })
 
 copied : take 1 (set six 0 (getD part 0 0)) ≡ 7 ∷ []
 copied = copy-one six part 0 (lit< tt) (lit< tt) refl

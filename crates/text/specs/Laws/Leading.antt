@@ -1,5 +1,5 @@
 -- Digits that stand in a line from one place to another: how a loop that reads them goes on by one, and that they are a word, and what
--- it says, where no word goes on after them. Assumes nothing.
+-- it says, where no word goes on after them; what the code hands on of a word. Assumes nothing.
 use mathlib.Core.Bool.{Bool, true}
 use mathlib.Core.List.{List, [], _∷_}
 use mathlib.Core.Path.{_≡_, refl, sym, ap, _∙_}
@@ -11,6 +11,7 @@ use borrow.Author.Tests.{le-leb, ne-eqb, ltb-true, leb-true}
 use lib.Dec.{leb, ltb, lit<}
 use lib.ListN.{length, getD, drop}
 use Rattle.bools.specs.Laws.Tests.{both}
+use Rattle.text.specs.declared.number.Reading.{Reading}
 use Rattle.text.specs.declared.number.Reading.the-variants.{Number}
 use Rattle.text.specs.Gather.{piece}
 use Rattle.text.specs.Leading.{digitsEnd, DigitsIn, LeadingDigits, isNumber}
@@ -19,6 +20,11 @@ use Rattle.text.specs.Laws.Number.{is-digit, every-append, every-at, eve
 use Rattle.text.specs.Laws.Pieces.{piece-none, piece-more, piece-length, piece-then}
 use Rattle.text.specs.Laws.Words.{digit-ink, run-past}
 use Rattle.text.specs.Words.{isInk, run, runEnd}
+
+-- the word at `from` ends at `to`, and says r
+pub record WordAt (s : List ℕ) (from to : ℕ) (r : Reading) : Type 0 where
+  pub end-is : to ≡ runEnd isInk s from
+  pub said-is : r ≡ readNumber (piece from to s)
 
 pub digits-none : (s : List ℕ) (from : ℕ) → from ≤ length s → DigitsIn s from from 0
 unfolding every value valueFrom

@@ -16,7 +16,7 @@ use Rattle.book_laws.specs.Laws.Record.{allAgree-none, allAgree-next, allAgree-
 use Rattle.book_bytes.specs.declared.trailer.Description as Code
 use Rattle.book.specs.declared.accept.Acceptance as CodeAcceptance
 use Rattle.book_bytes.specs.Answers.{descriptionOf}
-use Rattle.book.specs.Answers.{acceptanceOf}
+use Rattle.book.specs.Answers.{AcceptAnswers, acceptanceOf}
 use Rattle.book.proofs.Described.{Inside, inside}
 use Rattle.book.proofs.accept.accept.Statement.{statement}
 use Rattle.book.proofs.accept.accept.Tie as tie
@@ -24,14 +24,15 @@ use Rattle.book.proofs.accept.accept.Tie as tie
 module _ (b : List ℕ) (used : ℕ) {d : Code.Description} (is : descriptionOf d ≡ describe b used) where
   by-trailer :
       (d .number ≡ 0 → ⊥) → {r : CodeAcceptance.Acceptance} → acceptanceOf r ≡ unaccepted (d .number) 0 →
-      (acceptanceOf r ≡ acceptOf b used (r .named)) × (r .number ≡ 23 → Differs b used (r .named))
+      AcceptAnswers b used r
   unfolding acceptIn unaccepted
   by-trailer given {r} answer =
       let number-is = ap (λ (a : Acceptance). a .number) answer in
-      let described = ap (λ (e : Description). e .number) is in (
-        answer ∙ sym (onBook-refused rbk1 b used _ _ is given),
-        λ is-23. absurd (omega (arith, describe-most rbk1 b used)),
-      )
+      let described = ap (λ (e : Description). e .number) is in
+      record {
+        answer-is = answer ∙ sym (onBook-refused rbk1 b used _ _ is given);
+        differs = λ is-23. absurd (omega (arith, describe-most rbk1 b used));
+      }
 
   on : d .number ≡ 0 → (k : ℕ) → acceptOf b used k ≡ acceptAfter rbk1 (descriptionOf d) b k
   unfolding acceptIn
@@ -40,7 +41,7 @@ module _ (b : List ℕ) (used : ℕ) {d : Code.Description} (is : descriptionOf 
   named :
       (i : ℕ) → d .number ≡ 0 → i < d .count → agrees rbk1 b (placeFrom rbk1 (d .first) i) ≡ false →
       {r : CodeAcceptance.Acceptance} → acceptanceOf r ≡ unaccepted 23 (i + 1) →
-      (acceptanceOf r ≡ acceptOf b used (r .named)) × (r .number ≡ 23 → Differs b used (r .named))
+      AcceptAnswers b used r
   unfolding acceptAfter unaccepted
   named i none within differing {r} answer =
       let named-is = ap (λ (a : Acceptance). a .named) answer in
@@ -50,17 +51,17 @@ module _ (b : List ℕ) (used : ℕ) {d : Code.Description} (is : descriptionOf 
       let place : placeFrom rbk1 (describe b used .first) (i + 1 - 1) ≡ placeFrom rbk1 (d .first) i = omega (arith, first-is) in
       let differs : Differs b used (i + 1) =
       record { from-one = omega arith; to-count = omega (arith, count-is); disagrees = ap (agrees rbk1 b) place ∙ differing }
-      in (
-        answer ∙ ap (unaccepted 23) (sym named-is) ∙ sym (on none (r .named) ∙ simp not-all),
-        λ is-23. subst (Differs b used) (sym named-is) differs,
-      )
+      in
+      record {
+        answer-is = answer ∙ ap (unaccepted 23) (sym named-is) ∙ sym (on none (r .named) ∙ simp not-all);
+        differs = λ is-23. subst (Differs b used) (sym named-is) differs;
+      }
 
   accepted :
       d .number ≡ 0 → allAgree rbk1 b (d .first) (d .count) ≡ true →
-      (record { number = 0; count = d .count; note = d .first; named = 0 } ≡ acceptOf b used 0)
-      × (_≡_ {A = ℕ} 0 23 → Differs b used 0)
+      AcceptAnswers b used (record { number = 0; count = d .count; note = d .first; named = 0 })
   unfolding acceptAfter
-  accepted none all = (sym (on none 0 ∙ simp all), λ is-23. absurd (omega arith))
+  accepted none all = record { answer-is = sym (on none 0 ∙ simp all); differs = λ is-23. absurd (omega arith) }
 
 abbrev Inv-loop : tie.InvT-loop
 Inv-loop buffer used count first i₀ i = (i ≤ count) × (allAgree rbk1 buffer first i ≡ true)

@@ -28,16 +28,22 @@ use Rattle.book.proofs.append.append.Tie as tie
 abbrev ownOf : ℕ → ℕ → ℕ
 ownOf count left = cond (leb (rbk1 .most) count) 25 (cond (ltb left (recordLength rbk1)) 24 0)
 
-own-none : (count left : ℕ) → ownOf count left ≡ 0 → (count < rbk1 .most) × (recordLength rbk1 ≤ left)
+-- neither of append's own refusals is given
+record OneMore (count left : ℕ) : Type 0 where
+  pub few : count < rbk1 .most
+  pub room : recordLength rbk1 ≤ left
+
+own-none : (count left : ℕ) → ownOf count left ≡ 0 → OneMore count left
 own-none count left e = by-tests (leb (rbk1 .most) count) (ltb left (recordLength rbk1)) refl refl e
   where
     by-tests :
         (full short : Bool) → leb (rbk1 .most) count ≡ full → ltb left (recordLength rbk1) ≡ short →
         _≡_ {A = ℕ} (cond full 25 (cond short 24 0)) 0 →
-        (count < rbk1 .most) × (recordLength rbk1 ≤ left)
+        OneMore count left
     by-tests true short f s e = absurd (suc-ne-zero 24 e)
     by-tests false true f s e = absurd (suc-ne-zero 23 e)
-    by-tests false false f s e = (leb-false (rbk1 .most) count f, ltb-false left (recordLength rbk1) s)
+    by-tests false false f s e =
+        record { few = leb-false (rbk1 .most) count f; room = ltb-false left (recordLength rbk1) s }
 
 -- a record's bytes are left where as many more fit
 same-room : (n used : ℕ) → used ≤ n → ltb (n - used) (recordLength rbk1) ≡ ltb n (used + recordLength rbk1)
@@ -106,28 +112,28 @@ sub-put-record c =
     omega (arith, of-book _ _ (tested .before .before .describe-book .ensures) (tested .if1 .left) .places)
 
 -- a record more fits, where append's own refusals are not given
-room :
+one-more :
     (c : tie.After-struct-known2) →
     let own = c .before .before .before in
     let told = own .before .before .before in
-    (told .describe-book .result .count < rbk1 .most)
-    × (recordLength rbk1 ≤ length (now (told .before .before .before .args .buffer)) - told .before .before .before .args .used)
-room c = let own = c .before .before .before in own-none _ _ (sym (own .own-refusal .ensures) ∙ c .before .before .if2 .left)
+    let start = told .before .before .before in
+    OneMore (told .describe-book .result .count) (length (now (start .args .buffer)) - start .args .used)
+one-more c = let own = c .before .before .before in own-none _ _ (sym (own .own-refusal .ensures) ∙ c .before .before .if2 .left)
 
 cast-put-record : tie.Need-cast-put-record
-cast-put-record c = omega (arith, room c .0)
+cast-put-record c = omega (arith, one-more c .few)
 
 add-put-record : tie.Need-add-put-record
-add-put-record c = omega (arith, room c .0)
+add-put-record c = omega (arith, one-more c .few)
 
 put-record-requires : tie.Need-put-record-requires
 put-record-requires c κs =
     let tested = c .before .before .before .before in
     let book = of-book _ _ (tested .before .before .describe-book .ensures) (tested .if1 .left) in
-    (omega (arith, book .used-most, book .places, room c .1), omega (arith, room c .0))
+    record { room = omega (arith, book .used-most, book .places, one-more c .room); count-most = omega (arith, one-more c .few) }
 
 add-t9 : tie.Need-add-t9
-add-t9 c = omega (arith, room (c .before .before .before) .1)
+add-t9 c = omega (arith, one-more (c .before .before .before) .room)
 
 returns-3 : tie.Need-returns-3
 returns-3 c =
@@ -136,7 +142,8 @@ returns-3 c =
     let tested = known .before .before .before .before in
     let told = tested .before .before .describe-book .ensures in
     let none = tested .if1 .left in
-    sym (appended _ _ _ told none (room known .0) (omega (arith, of-book _ _ told none .used-most, room known .1))
+    sym (appended _ _ _ told none (one-more known .few)
+    (omega (arith, of-book _ _ told none .used-most, one-more known .room))
     (put .put-record .ensures))
 
 pub append-spec : {M : Type 1} → statement M

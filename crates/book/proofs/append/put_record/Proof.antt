@@ -8,8 +8,9 @@ use Rattle.splice.specs.Splice.{splice}
 use Rattle.splice.specs.Laws.Splice.{splice-after}
 use Rattle.rating.specs.Rate.{Answer, answerOf, rateOf}
 use Rattle.rating.specs.declared.rate.Answer as Code
+use Rattle.book_bytes.specs.Laws.Steps.{FieldsMade}
 use Rattle.book_laws.specs.Bytes.{wordsBytes}
-use Rattle.book_laws.specs.Layout.{rbk1, recordFields, recordLength}
+use Rattle.book_laws.specs.Layout.{rbk1, recordLength}
 use Rattle.book_laws.specs.Format.{fieldsOf, recordBytes, trailerBytes}
 use Rattle.book_laws.specs.Laws.Bytes.{wordsBytes-length}
 use borrow.Author.Needs.{needs}
@@ -26,17 +27,17 @@ fields-are x {r} {f} rated made =
     ap wordsBytes (made ∙ ap₂ (λ (n i : ℕ). x ++ (n ∷ i ∷ [])) number rating)
 
 record-and-trailer :
-    (l : List ℕ) (at : ℕ) (x : List ℕ) (count : ℕ) {r : Code.Answer} {f m n : List ℕ} → at ≤ length l → length f ≡ recordFields rbk1 →
-    answerOf r ≡ rateOf x → f ≡ x ++ (r .answer ∷ r .rating ∷ []) → m ≡ splice l at (wordsBytes f) →
+    (l : List ℕ) (at : ℕ) (x : List ℕ) (count : ℕ) {r : Code.Answer} {f m n : List ℕ} → at ≤ length l →
+    FieldsMade x (r .answer) (r .rating) f → answerOf r ≡ rateOf x → m ≡ splice l at (wordsBytes f) →
     n ≡ splice m (at + recordLength rbk1) (trailerBytes rbk1 count) → n ≡ splice l at (recordBytes rbk1 x ++ trailerBytes rbk1 count)
-record-and-trailer l at x count {r} {f} {m} {n} h size rated made put-fields put-trailer =
+record-and-trailer l at x count {r} {f} {m} {n} h made rated put-fields put-trailer =
     let trailer = trailerBytes rbk1 count in
-    let place : at + recordLength rbk1 ≡ at + length (wordsBytes f) = omega (arith, wordsBytes-length f) in
+    let place : at + recordLength rbk1 ≡ at + length (wordsBytes f) = omega (arith, made .count-is, wordsBytes-length f) in
     put-trailer
     ∙ ap (λ (t : List ℕ). splice t (at + recordLength rbk1) trailer) put-fields
     ∙ ap (λ (k : ℕ). splice (splice l at (wordsBytes f)) k trailer) place
     ∙ splice-after l at (wordsBytes f) trailer h
-    ∙ ap (λ (u : List ℕ). splice l at (u ++ trailer)) (fields-are x rated made)
+    ∙ ap (λ (u : List ℕ). splice l at (u ++ trailer)) (fields-are x rated (made .fields-are))
 
 returns : tie.Need-returns
 returns c =
@@ -45,8 +46,7 @@ returns c =
     let made = fielded .before in
     let rated = made .before .before in
     let start = rated .before .before in
-    record-and-trailer _ _ (start .args .x) _ (omega (arith, start .pre)) (made .fields-of .ensures .1) (rated .rate .ensures)
-    (made .fields-of .ensures .0)
+    record-and-trailer _ _ (start .args .x) _ (omega (arith, start .pre .room)) (made .fields-of .ensures) (rated .rate .ensures)
     (fielded .put-fields .ensures)
     (trailed .put-trailer .ensures)
 

@@ -9,6 +9,7 @@ use lib.Seq.{take-all, take-suc-set}
 use Rattle.splice.specs.Laws.Splice.{copy-one}
 use Rattle.fields.specs.Fields.{width}
 use Rattle.book_laws.specs.Layout.{rbk1, recordFields}
+use Rattle.book_bytes.specs.Laws.Steps.{FieldsMade}
 use Rattle.book_bytes.proofs.record.fields_of.Statement.{statement}
 use Rattle.book_bytes.proofs.record.fields_of.Tie as tie
 
@@ -16,7 +17,7 @@ use Rattle.book_bytes.proofs.record.fields_of.Tie as tie
 last-two :
     (f x : List ℕ) (answer rating : ℕ) → length f ≡ recordFields rbk1 → length x ≡ width → take width f ≡ take width x →
     let stored = set (set f width answer) (width + 1) rating in
-    (stored ≡ x ++ (answer ∷ rating ∷ [])) × (length stored ≡ recordFields rbk1)
+    FieldsMade x answer rating stored
 last-two f x answer rating f-size x-size so-far =
     let one = set f width answer in
     let both = set one (width + 1) rating in
@@ -24,13 +25,15 @@ last-two f x answer rating f-size x-size so-far =
     let size = length-set one (width + 1) rating ∙ one-size in
     let first : take (width + 1) one ≡ x ++ (answer ∷ []) =
     take-suc-set f width answer (omega arith) ∙ ap (λ (t : List ℕ). t ++ (answer ∷ [])) (so-far ∙ take-all width x (omega arith))
-    in (
-      sym (take-all (recordFields rbk1) both (omega (arith, size)))
+    in
+    record {
+      fields-are =
+          sym (take-all (recordFields rbk1) both (omega (arith, size)))
           ∙ take-suc-set one (width + 1) rating (omega (arith, one-size))
           ∙ ap (λ (t : List ℕ). t ++ (rating ∷ [])) first
-          ∙ append-assoc x (answer ∷ []) (rating ∷ []),
-      size,
-    )
+          ∙ append-assoc x (answer ∷ []) (rating ∷ []);
+      count-is = size;
+    }
 
 abbrev Inv-loop : tie.InvT-loop
 Inv-loop answer rating x fields₀ i₀ fields i = (i ≤ width) × (length fields ≡ recordFields rbk1) × (take i fields ≡ take i x)

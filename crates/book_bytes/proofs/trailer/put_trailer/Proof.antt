@@ -24,11 +24,15 @@ parts l at count {a} {b} {d} {e} h put-a put-b put-d put-e =
     let next : (n at to : ℕ) → at + 4 ≡ to → to ≡ at + length (wordBytes n) =
     λ n at to there. omega (arith, numberBytes-length 4 n)
     in
-    let marked : Put l at (rbk1 .mark) a (at + 4) = (refl, put-a) in
-    let counted : Put a (at + 4) (wordBytes count) b (at + 8) = (next count _ _ (omega arith), put-b) in
-    let distant : Put b (at + 8) (wordBytes (recordLength rbk1 * count)) d (at + 12) = (next _ _ _ (omega arith), put-d) in
-    let sized : Put d (at + 12) (wordBytes (recordLength rbk1)) e (at + 16) = (next (recordLength rbk1) _ _ (omega arith), put-e) in
-    put-then l at _ _ h (put-then l at _ _ h (put-then l at _ _ h marked counted) distant) sized .1
+    let marked : Put l at (rbk1 .mark) a (at + 4) = record { place-is = refl; list-is = put-a } in
+    let counted : Put a (at + 4) (wordBytes count) b (at + 8) = record { place-is = next count _ _ (omega arith); list-is = put-b } in
+    let distant : Put b (at + 8) (wordBytes (recordLength rbk1 * count)) d (at + 12) =
+    record { place-is = next _ _ _ (omega arith); list-is = put-d }
+    in
+    let sized : Put d (at + 12) (wordBytes (recordLength rbk1)) e (at + 16) =
+    record { place-is = next (recordLength rbk1) _ _ (omega arith); list-is = put-e }
+    in
+    put-then l at _ _ h (put-then l at _ _ h (put-then l at _ _ h marked counted) distant) sized .list-is
 
 returns : tie.Need-returns
 returns c =

@@ -47,7 +47,10 @@ same-length c = omega (arith, c .before .before .pre)
 returns : tie.Need-returns Inv-loop μ-loop
 returns c =
     let at-loop = c .before .loop in
-    (at-loop .inv .2 ∙ ap (splice _ 1) (take-all (at-loop .i) (c .before .before .args .t2) (omega arith)), omega arith)
+    record {
+      list-is = at-loop .inv .2 ∙ ap (splice _ 1) (take-all (at-loop .i) (c .before .before .args .t2) (omega arith));
+      sheet-length = omega arith;
+    }
 
 pub put-sheet-spec : {M : Type 1} → statement M
 put-sheet-spec =

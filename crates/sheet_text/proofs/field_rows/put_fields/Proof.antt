@@ -5,6 +5,7 @@ use mathlib.Core.Path.{_≡_, refl}
 use Prim.Native.Nat.{_-_, _≤_}
 use native.Mathlib.Omega.{arith}
 use lib.ListN.{length}
+use Rattle.fields.specs.Fields.{width}
 use Rattle.sheet_text.proofs.field_rows.put_fields.Statement.{statement}
 use Rattle.sheet_text.proofs.field_rows.put_fields.Tie as tie
 
@@ -12,7 +13,7 @@ abbrev Inv-loop : tie.InvT-loop
 Inv-loop out₀ at armour x at₀ i₀ out at' i = (length out ≡ length out₀) × (at' ≤ length out₀)
 
 abbrev μ-loop : tie.MeasureT-loop
-μ-loop out₀ at armour x at₀ i₀ out at' i = 26 - i
+μ-loop out₀ at armour x at₀ i₀ out at' i = width - i
 
 pub put-fields-spec : {M : Type 1} → statement M
 put-fields-spec =

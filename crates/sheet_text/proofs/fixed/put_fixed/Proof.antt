@@ -1,7 +1,6 @@
 -- `sheet_text::fixed::put_fixed` meets its contract: the laws of `Points` put its three writings together.
 -- Assumes nothing.
-use mathlib.Core.List.{List}
-use mathlib.Core.Path.{_≡_, ap, _∙_}
+use mathlib.Core.Path.{_≡_}
 use Prim.Native.Nat.{ℕ, _+_, _%_, _/_, _^_, _≤_, _<_}
 use native.Mathlib.Nat.{one-le-pow, pow-le-pow-right, mod-lt, div-le-self, lt-of-le-of-lt}
 use native.Mathlib.Omega.{arith}
@@ -10,8 +9,8 @@ use lib.Dec.{lit<}
 use lib.ListN.{length}
 use Rattle.decimals.specs.Decimal.{decimal}
 use Rattle.decimals.specs.Laws.Decimal.{count-64}
-use Rattle.splice.specs.Splice.{splice}
-use Rattle.sheet_text.proofs.Points.{fixed-none, ends, written}
+use Rattle.splice.specs.Laws.Put.{put-as}
+use Rattle.sheet_text.proofs.Points.{fixed-none, point-put}
 use Rattle.sheet_text.proofs.fixed.put_fixed.Statement.{statement}
 use Rattle.sheet_text.proofs.fixed.put_fixed.Tie as tie
 
@@ -32,9 +31,8 @@ count x one h = count-64 (x / one) (lt-of-le-of-lt (div-le-self x one) h)
 no-decimals : tie.Need-returns
 no-decimals c =
     let a = c .before .before .before .before .before .before .args in
-    let h = c .before .before .put-decimal .ensures in
-    let same = fixed-none (a .decimals) (a .x) (c .before .before .before .before .if1 .taken) in
-    (h .0 ∙ ap (λ (t : List ℕ). a .at + length t) same, h .1 ∙ ap (splice (a .out .now) (a .at)) same)
+    let none = c .before .before .before .before .if1 .taken in
+    put-as _ _ (fixed-none (a .decimals) (a .x) none) (c .before .before .put-decimal .ensures)
 
 power-positive : tie.Need-div-put-decimal
 power-positive c = positive _ _ (c .before .power-of-ten .ensures)
@@ -45,7 +43,8 @@ power-positive-again c = positive _ _ (c .before .before .before .before .before
 sum-fits : tie.Need-add-put-decimal
 sum-fits c =
     let start = c .before .before .before .before .before .before .before .before in
-    omega (arith, sum-small _ _ (start .args .x) (c .before .before .before .before .before .power-of-ten .ensures) (start .pre .1))
+    let power = c .before .before .before .before .before .power-of-ten .ensures in
+    omega (arith, sum-small _ _ (start .args .x) power (start .pre .few-decimals))
 
 room-for-rest : tie.Need-put-decimal-requires-3
 room-for-rest c κs =
@@ -68,13 +67,9 @@ with-decimals c =
     let digits = count (a .x) (one .result) (start .fits .x .fits) in
     let room : a .at + length (decimal (a .x / one .result)) ≤ length (a .out .now) = omega arith in
     let same : length (two .put-decimal2 .last .0) ≡ length (a .out .now) = omega arith in
-    let e = two .put-decimal2 .ensures in
-    let f = three .put-decimal3 .ensures in
-    let g = c .before .before .put-byte .ensures .1 in
-    let some = two .before .before .before .if1 .left in (
-      ends _ _ _ _ _ _ _ _ _ _ some (one .ensures) room (e .0) (e .1) same (f .0) (f .1) g,
-      written _ _ _ _ _ _ _ _ _ _ some (one .ensures) room (e .0) (e .1) same (f .0) (f .1) g,
-    )
+    let some = two .before .before .before .if1 .left in
+    point-put _ _ _ _ _ _ _ _ _ _ some (one .ensures) room same (two .put-decimal2 .ensures) (three .put-decimal3 .ensures)
+    (c .before .before .put-byte .ensures .list-is)
 
 pub put-fixed-spec : {M : Type 1} → statement M
 put-fixed-spec =

@@ -15,7 +15,7 @@ unfolding kept
 within have at from to s r e h = omega (arith, length-take (have - at) (piece from to s))
 
 returns : tie.Need-returns
-returns c = within _ _ _ _ _ _ (c .before .before .keep .ensures .0)
+returns c = within _ _ _ _ _ _ (c .before .before .keep .ensures .place-is)
     (c .before .before .before .before .before .before .pre)
 
 pub put-part-spec : {M : Type 1} → statement M

@@ -116,12 +116,14 @@ all-copied : tie.Need-returns Inv-loop μ-loop
 all-copied c =
     let a = c .before .before .before .before .before .before .args in
     let count = count-is (c .before .before) in
-    let all : c .before .loop .i ≡ c .before .before .kept-count .result = omega arith in (
-      ap (λ (n : ℕ). a .len + n) count,
-      c .before .loop .inv .1 .1
+    let all : c .before .loop .i ≡ c .before .before .kept-count .result = omega arith in
+    record {
+      place-is = ap (λ (n : ℕ). a .len + n) count;
+      list-is =
+          c .before .loop .inv .1 .1
           ∙ ap (paste (a .line .now) (a .len) (drop (a .from) (a .chunk .now))) (all ∙ count)
-          ∙ whole (a .line .now) (a .len) _ (a .from) (a .to) (a .chunk .now),
-    )
+          ∙ whole (a .line .now) (a .len) _ (a .from) (a .to) (a .chunk .now);
+    }
 
 pub keep-spec : {M : Type 1} → statement M
 keep-spec =

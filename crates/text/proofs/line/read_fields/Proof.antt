@@ -13,10 +13,9 @@ use Rattle.text.specs.declared.number.Reading.{Reading}
 use Rattle.text.specs.declared.number.Reading.the-variants.{Number, Nothing}
 use Rattle.text.specs.Laws.After.{after, after-one, after-unreadable, after-none}
 use Rattle.text.specs.Answer.{answer}
-use Rattle.text.specs.Gather.{piece}
 use Rattle.text.specs.Line.{aCase, unreadable, field, fields}
 use Rattle.fields.specs.Fields.{width}
-use Rattle.text.specs.Number.{readNumber}
+use Rattle.text.specs.Laws.Leading.{WordAt}
 use Rattle.text.specs.Laws.Runs.{run-within}
 use Rattle.text.specs.Words.{isBlank, isInk, runEnd}
 use Rattle.text.proofs.Fields.{turn, ends, goes-on}
@@ -38,21 +37,20 @@ abbrev μ-loop : tie.MeasureT-loop
 
 -- what the words from `at` on say, where one is read as r
 module _ {n : ℕ} {s l : List ℕ} {at i : ℕ} (on : Reading-on n s l at i) (more : i < n) (from to : ℕ) (r : Reading)
-    (blanks : from ≡ runEnd isBlank s at) (ink : to ≡ runEnd isInk s from)
-    (read : r ≡ readNumber (take (to - from) (drop from s))) where
+    (blanks : from ≡ runEnd isBlank s at) (word : WordAt s from to r) where
   one : fields n s ≡ after (take i l) (field r (fields (n - (i + 1)) (drop to s)))
   one =
       let left : n - i ≡ suc (n - (i + 1)) = omega arith in
       on .same
       ∙ ap (λ (k : ℕ). after (take i l) (fields k (drop at s))) left
-      ∙ ap (after (take i l)) (turn (n - (i + 1)) s at from to r blanks ink read)
+      ∙ ap (after (take i l)) (turn (n - (i + 1)) s at from to r blanks word)
 
   next : (x : ℕ) → r ≡ Number x → Reading-on n s (set l i x) to (i + 1)
   unfolding field
   next x e =
       record {
         count = omega arith;
-        within = rw ink (run-within isInk s from (rw blanks (run-within isBlank s at (on .within))));
+        within = rw (word .end-is) (run-within isInk s from (rw blanks (run-within isBlank s at (on .within))));
         room = length-set l i x ∙ on .room;
         same =
             one
@@ -96,7 +94,7 @@ word-inside : tie.Need-read-word-requires Inv-loop μ-loop
 word-inside c κs = rw (c .skip-blanks .ensures) (run-within isBlank _ _ (c .before .before .loop .inv .within))
 
 no-number : tie.Need-returns Inv-loop μ-loop
-unfolding answer piece
+unfolding answer
 no-number c =
     let word = c .before .before .before in
     let at-turn = word .before .before in
@@ -109,15 +107,13 @@ no-number c =
     _
     _
     (word .before .skip-blanks .ensures)
-    (word .read-word .ensures .0)
-    (word .read-word .ensures .1)
+    (word .read-word .ensures)
     (c .before .enum-told .given .1))
 
 loop-less : tie.Need-loop-less Inv-loop μ-loop
 loop-less c = omega arith
 
 one-more-read : tie.Need-loop-again Inv-loop μ-loop
-unfolding piece
 one-more-read c =
     let word = c .before .before .before in
     let at-turn = word .before .before in
@@ -128,8 +124,7 @@ one-more-read c =
     _
     _
     (word .before .skip-blanks .ensures)
-    (word .read-word .ensures .0)
-    (word .read-word .ensures .1)
+    (word .read-word .ensures)
     _
     (c .before .said .given .1)
 

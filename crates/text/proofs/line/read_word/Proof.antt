@@ -23,14 +23,14 @@ digits-alone c =
     let leading = tested .before .before .leading-digits .ensures in
     let number = number-in _ leading (tested .before .is-number .ensures) (tested .if2 .taken) in
     let past = c .before .before .is-past-word .ensures (c .before .if3 .taken) in
-    (word-ends _ _ _ _ (number .digits) past, sym (word-says number))
+    record { end-is = word-ends _ _ _ _ (number .digits) past; said-is = sym (word-says number) }
 
 end-inside : tie.Need-part-read-number-end
 end-inside c = rw (c .skip-word .ensures) (run-within isInk _ _ (c .before .before .before .pre))
 
 any-word : tie.Need-returns-2
 unfolding piece
-any-word c = (c .before .before .skip-word .ensures, c .read-number .ensures)
+any-word c = record { end-is = c .before .before .skip-word .ensures; said-is = c .read-number .ensures }
 
 pub read-word-spec : {M : Type 1} → statement M
 read-word-spec =

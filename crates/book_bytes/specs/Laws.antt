@@ -1,0 +1,2 @@
+-- What the contract of a record's fields ensures. Assumes nothing.
+pub mod Steps

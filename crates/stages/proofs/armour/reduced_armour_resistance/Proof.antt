@@ -34,4 +34,4 @@ reduced-armour-resistance-spec =
     (tie.spec (λ c κs. (omega arith, fits-down mostArmourRatio (omega arith) (omega arith) tt))
     (λ c κs. square-fits down-bounded mostArmourRatio mostArmourRatioSquared (c .mul-div-down .ensures) (omega arith) (omega arith) tt tt)
     (λ c. omega (arith, y2-most c))
-    (λ c κs. (omega arith, fits-up mostResistance (omega arith) (omega (arith, c .before .before .pre .0)) tt)) returns)
+    (λ c κs. (omega arith, fits-up mostResistance (omega arith) (omega (arith, c .before .before .pre .ra-most)) tt)) returns)

@@ -19,7 +19,9 @@ abbrev screening : tie.After-mul-div-up → ℕ
 screening c = screeningRatioSquared (c .before .before .args .x) (c .before .before .args .rs)
 
 v2-most : (c : tie.After-screening-ratio-squared) → c .screening-ratio-squared .result ≤ mostBondRatioSquared
-v2-most c = omega (arith, screeningRatioSquared-most (c .before .pre .1) (c .before .pre .2), c .screening-ratio-squared .ensures)
+v2-most c =
+    let pre = c .before .pre .ratio in
+    omega (arith, screeningRatioSquared-most (pre .x-most) (pre .rs-least), c .screening-ratio-squared .ensures)
 
 share-is : (c : tie.After-mul-div-up) → c .mul-div-up .result ≡ up (tera * tera) (tera + screening c)
 unfolding tera
@@ -30,7 +32,7 @@ share-is c =
 mul-div-up-trillion-requires : tie.Need-mul-div-up-trillion-requires
 mul-div-up-trillion-requires c κs =
     let share≤ : c .mul-div-up .result ≤ trillion = omega (arith, share-is c, screening-most (screening c)) in
-    fits-up mostArmourLoss (lit< tt) (mul-le-mul (c .before .before .pre .0) share≤) tt
+    fits-up mostArmourLoss (lit< tt) (mul-le-mul (c .before .before .pre .w-most) share≤) tt
 
 returns : tie.Need-returns
 unfolding screenedLoss tera

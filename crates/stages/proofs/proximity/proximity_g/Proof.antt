@@ -13,5 +13,5 @@ unfolding proximityG
 proximity-g-spec =
     tie.close
     (tie.spec (λ c. search needs)
-    (λ c κs. (lit< tt, fits-up 80000000000 (lit< tt) (omega (arith, mul-le-mul (c .pre .0) (c .pre .1))) tt))
+    (λ c κs. (lit< tt, fits-up 80000000000 (lit< tt) (omega (arith, mul-le-mul (c .pre .u-most) (c .pre .factor-most))) tt))
     (λ c. c .mul-div-up .ensures))

@@ -23,7 +23,7 @@ m2-is c = c .mul-div-up-trillion .ensures ∙ ap (λ m. up (m * m) trillion) (c 
 m2-most : (c : tie.After-mul-div-up-trillion) → c .mul-div-up-trillion .result ≤ mostEddyFactor
 m2-most c =
     let pre = c .before .before .pre in
-    omega (arith, m2-is c, eddyRatioSquared-most (eddyRatio-most (c .before .before .args .b) (pre .0) (pre .2)))
+    omega (arith, m2-is c, eddyRatioSquared-most (eddyRatio-most (c .before .before .args .b) (pre .rs>0) (pre .b-most)))
 
 pub eddy-factor-spec : {M : Type 1} → statement M
 unfolding eddyFactor tera

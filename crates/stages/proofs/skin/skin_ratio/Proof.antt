@@ -15,8 +15,9 @@ use Rattle.stages.proofs.skin.skin_ratio.Tie as tie
 
 mul-div-up-requires : tie.Need-mul-div-up-requires
 mul-div-up-requires c κs =
+    let pre = c .before .pre .reactance in
     let a≤ : c .skin-reactance .result ≤ mostSkinReactance =
-    omega (arith, skinReactance-most (c .before .pre .0) (c .before .pre .1), c .skin-reactance .ensures)
+    omega (arith, skinReactance-most (pre .f-most) (pre .k-most), c .skin-reactance .ensures)
     in
     (omega arith, fits-up 45000000000000 (omega arith) (omega arith) tt)
 

@@ -1,7 +1,7 @@
 -- The two ends of stage 5's logarithm have the same parts: the octaves, and thirteen terms from the first power. What the code needs
 -- of them is stated once, over the rounding. Assumes nothing.
 use mathlib.Core.Path.{_≡_, ap, ap₂, _∙_}
-use Prim.Native.Nat.{ℕ, _*_, _^_, _≤_, _<_}
+use Prim.Native.Nat.{ℕ, _*_, _≤_}
 use native.Mathlib.Nat.{le-trans, le-of-eq}
 use native.Mathlib.Omega.{arith}
 use Rattle.exact.specs.Trillion.{trillion}
@@ -9,6 +9,7 @@ use Rattle.formulas.specs.Constants.{tera}
 use Rattle.formulas.specs.Logarithm.{octaves, firstPower, thirteenTerms}
 use Rattle.formulas.specs.Laws.LogRange.{Bounded, firstPower-most, thirteenTerms-most, octaves-most}
 use Rattle.formulas.specs.Laws.Bounds.{mostPower, mostTerms}
+use Rattle.wide.specs.Laws.Ranges.{QuotientFits}
 use Rattle.stages.specs.Reduced.{IsReduced}
 use Rattle.stages.specs.Laws.Ranges.{LogRanges}
 use Rattle.stages.proofs.Series.{fits}
@@ -31,8 +32,8 @@ module _
   pub first-most : round (num * trillion) den ≤ mostPower
   first-most = le-trans (le-of-eq first-is) (firstPower-most bounded a b (ranges .octaves .b>0) (ranges .octaves .b-most))
 
-  pub first-fits : (0 < den) × (round (num * trillion) den < 2 ^ 64)
-  first-fits = (omega (arith, reduced .den-is), fits first-most)
+  pub first-fits : QuotientFits den (round (num * trillion) den)
+  first-fits = record { c>0 = omega (arith, reduced .den-is); fits = fits first-most }
 
   pub parts :
       {first terms : ℕ} → first ≡ round (num * trillion) den → terms ≡ thirteenTerms round first → Parts round a b terms count

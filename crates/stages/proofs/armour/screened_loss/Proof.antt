@@ -10,7 +10,7 @@ use Rattle.formulas.specs.Constants.{tera}
 use Rattle.formulas.specs.Armour.{screeningRatioSquared, screenedLoss}
 use Rattle.formulas.specs.Laws.Ranges.{screeningRatioSquared-most, screening-most}
 use Rattle.formulas.specs.Laws.Bounds.{mostBondRatioSquared, mostArmourLoss}
-use Rattle.stages.proofs.Quotients.{fits-up}
+use Rattle.stages.proofs.Quotients.{fits-up, quotient-up}
 use Prim.Native.Nat.{ℕ, _+_, _*_, _≤_}
 use Rattle.stages.proofs.armour.screened_loss.Statement.{statement}
 use Rattle.stages.proofs.armour.screened_loss.Tie as tie
@@ -44,4 +44,4 @@ pub screened-loss-spec : {M : Type 1} → statement M
 screened-loss-spec =
     tie.close
     (tie.spec (λ c κs. search needs) (λ c. omega (arith, v2-most c))
-    (λ c κs. (omega arith, fits-up trillion (omega arith) (omega arith) tt)) mul-div-up-trillion-requires returns)
+    (λ c κs. quotient-up trillion (omega arith) (omega arith) tt) mul-div-up-trillion-requires returns)

@@ -10,7 +10,7 @@ use Rattle.formulas.specs.Constants.{tera}
 use Rattle.formulas.specs.Armour.{unscreenedLoss}
 use Rattle.formulas.specs.Laws.Ranges.{reducedArmourResistance-most, armourSpacing-most}
 use Rattle.formulas.specs.Laws.Bounds.{mostArmourLoss}
-use Rattle.stages.proofs.Quotients.{fits-up}
+use Rattle.stages.proofs.Quotients.{quotient-up}
 use Prim.Native.Nat.{_*_, _≤_}
 use Rattle.stages.proofs.armour.unscreened_loss.Statement.{statement}
 use Rattle.stages.proofs.armour.unscreened_loss.Tie as tie
@@ -32,7 +32,7 @@ r-most c =
 mul-div-up-requires : tie.Need-mul-div-up-requires
 mul-div-up-requires c κs =
     let da²>0 = mul-pos (c .pre .da>0) (c .pre .da>0) in
-    (da²>0, fits-up trillion da²>0 (omega (arith, mul-le-mul (c .pre .c-most) (c .pre .c-most))) tt)
+    quotient-up trillion da²>0 (omega (arith, mul-le-mul (c .pre .c-most) (c .pre .c-most))) tt
 
 mul-div-up-requires-2 : tie.Need-mul-div-up-requires-2
 mul-div-up-requires-2 c κs =
@@ -40,7 +40,7 @@ mul-div-up-requires-2 c κs =
     let place≤ : c .before .mul-div-up .result ≤ trillion =
     omega (arith, place-is (c .before), armourSpacing-most (c .before .before .args .c) (pre .da>0) (pre .c-most))
     in
-    (lit< tt, fits-up mostArmourLoss (lit< tt) (le-trans (mul-le-mul (r-most c) place≤) (lit≤ tt)) tt)
+    quotient-up mostArmourLoss (lit< tt) (le-trans (mul-le-mul (r-most c) place≤) (lit≤ tt)) tt
 
 returns : tie.Need-returns
 unfolding unscreenedLoss

@@ -4,7 +4,7 @@ use native.Mathlib.Omega.{arith}
 use native.Mathlib.Nat.{mul-le-mul}
 use Rattle.formulas.specs.Dielectric.{dielectricLoss}
 use Rattle.formulas.specs.Laws.Bounds.{mostDielectricLoss}
-use Rattle.stages.proofs.Quotients.{fits-up}
+use Rattle.stages.proofs.Quotients.{quotient-up}
 use Prim.Native.Nat.{_*_, _≤_}
 use Rattle.stages.proofs.dielectric.dielectric_loss.Statement.{statement}
 use Rattle.stages.proofs.dielectric.dielectric_loss.Tie as tie
@@ -17,7 +17,7 @@ product-most c = mul-le-mul (voltage-most c) (c .pre .t-most)
 
 mul-div-up-requires : tie.Need-mul-div-up-requires
 mul-div-up-requires c κs =
-    (omega arith, fits-up mostDielectricLoss (omega arith) (omega (arith, mul-le-mul (product-most c) (c .pre .b-most))) tt)
+    quotient-up mostDielectricLoss (omega arith) (omega (arith, mul-le-mul (product-most c) (c .pre .b-most))) tt
 
 pub dielectric-loss-spec : {M : Type 1} → statement M
 unfolding dielectricLoss

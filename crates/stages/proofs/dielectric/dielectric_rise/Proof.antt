@@ -6,7 +6,7 @@ use lib.Dec.{lit<}
 use Rattle.formulas.specs.Dielectric.{dielectricResistance, dielectricRise}
 use Rattle.formulas.specs.Laws.Ranges.{dielectricResistance-most}
 use Rattle.formulas.specs.Laws.Bounds.{mostDielectricRise}
-use Rattle.stages.proofs.Quotients.{fits-up}
+use Rattle.stages.proofs.Quotients.{quotient-up}
 use Prim.Native.Nat.{_+_, _*_, _≤_}
 use Rattle.stages.proofs.dielectric.dielectric_rise.Statement.{statement}
 use Rattle.stages.proofs.dielectric.dielectric_rise.Tie as tie
@@ -22,7 +22,7 @@ unfolding dielectricResistance
 mul-div-up-requires c κs =
     let t = c .pre .thermal in
     let t≤ = dielectricResistance-most (c .pre .n-most) (t .t1-most) (t .t2-most) (t .t3-most) (t .t4-most) in
-    (lit< tt, fits-up mostDielectricRise (lit< tt) (mul-le-mul (c .pre .wd-most) t≤) tt)
+    quotient-up mostDielectricRise (lit< tt) (mul-le-mul (c .pre .wd-most) t≤) tt
 
 pub dielectric-rise-spec : {M : Type 1} → statement M
 unfolding dielectricRise dielectricResistance

@@ -4,14 +4,14 @@ use native.Mathlib.Nat.{mul-le-mul, mul-pos}
 use Rattle.exact.specs.Trillion.{trillion}
 use Rattle.formulas.specs.Constants.{tera}
 use Rattle.formulas.specs.Proximity.{spacingRatio}
-use Rattle.stages.proofs.Quotients.{fits-up}
+use Rattle.stages.proofs.Quotients.{quotient-up}
 use Rattle.stages.proofs.proximity.spacing_ratio.Statement.{statement}
 use Rattle.stages.proofs.proximity.spacing_ratio.Tie as tie
 
 mul-div-up-requires : tie.Need-mul-div-up-requires
 mul-div-up-requires c κs =
     let s²>0 = mul-pos (c .pre .s>0) (c .pre .s>0) in
-    (s²>0, fits-up trillion s²>0 (omega (arith, mul-le-mul (c .pre .apart) (c .pre .apart))) tt)
+    quotient-up trillion s²>0 (omega (arith, mul-le-mul (c .pre .apart) (c .pre .apart))) tt
 
 pub spacing-ratio-spec : {M : Type 1} → statement M
 unfolding spacingRatio tera

@@ -4,7 +4,7 @@ use native.Mathlib.Nat.{mul-le-mul}
 use lib.Dec.{lit<}
 use Rattle.exact.specs.Laws.Rounding.{up-least}
 use Rattle.formulas.specs.Laws.Bounds.{mostPartRise}
-use Rattle.stages.proofs.Quotients.{fits-up}
+use Rattle.stages.proofs.Quotients.{quotient-up}
 use Prim.Native.Nat.{_*_, _≤_}
 use Rattle.stages.proofs.rating.rise.Statement.{statement}
 use Rattle.stages.proofs.rating.rise.Tie as tie
@@ -22,5 +22,5 @@ returns c =
 pub rise-spec : {M : Type 1} → statement M
 rise-spec =
     tie.close
-    (tie.spec (λ c κs. (lit< tt, fits-up mostPartRise (lit< tt) (mul-le-mul (c .pre .r-most) (c .pre .t-most)) tt))
+    (tie.spec (λ c κs. quotient-up mostPartRise (lit< tt) (mul-le-mul (c .pre .r-most) (c .pre .t-most)) tt)
     returns)

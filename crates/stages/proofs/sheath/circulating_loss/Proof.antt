@@ -9,7 +9,7 @@ use Rattle.formulas.specs.Constants.{tera}
 use Rattle.formulas.specs.Sheath.{circulatingLoss}
 use Rattle.formulas.specs.Laws.Ranges.{bondRatio-most, bondRatioSquared-most}
 use Rattle.formulas.specs.Laws.Bounds.{mostResistance, mostBondRatioSquared}
-use Rattle.stages.proofs.Quotients.{fits-up}
+use Rattle.stages.proofs.Quotients.{quotient-up}
 use Prim.Native.Nat.{_+_, _*_, _≤_}
 use Rattle.stages.proofs.sheath.circulating_loss.Statement.{statement}
 use Rattle.stages.proofs.sheath.circulating_loss.Tie as tie
@@ -23,7 +23,7 @@ mul-div-up-requires : tie.Need-mul-div-up-requires
 mul-div-up-requires c κs =
     let rs = c .before .args .rs in
     let v2 = c .bond-ratio-squared .result in
-    (omega arith, fits-up mostResistance (omega arith) (omega (arith, mul-le-mul-right v2 (c .before .pre .rs-most))) tt)
+    quotient-up mostResistance (omega arith) (omega (arith, mul-le-mul-right v2 (c .before .pre .rs-most))) tt
 
 returns : tie.Need-returns
 unfolding circulatingLoss tera

@@ -4,14 +4,14 @@ use native.Mathlib.Nat.{mul-le-mul, mul-pos}
 use Rattle.formulas.specs.Constants.{tera}
 use Rattle.formulas.specs.Sheath.{eddySpacing}
 use Rattle.formulas.specs.Laws.Bounds.{mostEddySpacing}
-use Rattle.stages.proofs.Quotients.{fits-up}
+use Rattle.stages.proofs.Quotients.{quotient-up}
 use Rattle.stages.proofs.sheath.eddy_spacing.Statement.{statement}
 use Rattle.stages.proofs.sheath.eddy_spacing.Tie as tie
 
 mul-div-up-requires : tie.Need-mul-div-up-requires
 mul-div-up-requires c κs =
     let s²>0 = mul-pos (c .pre .s>0) (c .pre .s>0) in
-    (omega arith, fits-up mostEddySpacing (omega arith) (omega (arith, mul-le-mul (c .pre .apart) (c .pre .apart))) tt)
+    quotient-up mostEddySpacing (omega arith) (omega (arith, mul-le-mul (c .pre .apart) (c .pre .apart))) tt
 
 pub eddy-spacing-spec : {M : Type 1} → statement M
 unfolding eddySpacing tera

@@ -14,4 +14,5 @@ pub mod Stage10
 pub mod Bounds
 pub mod Margin
 pub mod Steps
+pub mod Takes
 pub mod Instances

@@ -19,4 +19,5 @@ pub mod Passed
 pub mod Margin
 pub mod Answers
 pub mod Steps
+pub mod Takes
 pub mod Instances

@@ -1,6 +1,5 @@
 // What the stages take of a case that refusals 1 to 7 let pass: its resistances, its rise, B and its z.
 ghost use mathlib.Core.Path.{_≡_};
-ghost use Prim.Native.Nat.{_≤_, _<_};
 ghost use lib.IntN.{_-ℤ_, natAbs};
 ghost use mir.Syntax.{w32};
 ghost use mir.Val.{toZ};
@@ -11,6 +10,7 @@ ghost use Rattle.fields.specs.Fields as Field;
 ghost use Rattle.rating.specs.Laws.Rise.{RiseRange};
 ghost use Rattle.rating.specs.Laws.Sound.{Sound};
 ghost use Rattle.rating.specs.Laws.Steps.{MetalLimits};
+ghost use Rattle.rating.specs.Laws.Takes.{IsWord, SkinRatioTakes};
 ghost use Rattle.rating.specs.Values.{R', Rs, B, riseOf};
 use fields::AMBIENT_TEMPERATURE;
 use fields::CONDUCTOR;
@@ -30,7 +30,7 @@ use stages::tables::conductor_metal;
 
 // A word as a number for the stages, with its range.
 pub(crate) fn number(n: u32) -> u64
-    ensures { λ r. ⌜ (r ≡ n) × (r < 4294967296) ⌝ }
+    ensures { λ r. ⌜ IsWord n r ⌝ }
 {
     n as u64
 }
@@ -70,7 +70,7 @@ pub(crate) fn reactance_of(x: Case) -> u64
 
 // z with k, which is ks or kp.
 pub(crate) fn skin_ratio_of(x: Case, k: u32, rc: u64) -> u64
-    requires { ⌜ Sound x × (k ≤ 1000) × (rc ≡ R' x) ⌝ }
+    requires { ⌜ SkinRatioTakes x k rc ⌝ }
     ensures { λ r. ⌜ r ≡ skinRatio (Field.frequency x) k (R' x) ⌝ }
 {
     skin_ratio(number(x[FREQUENCY]), number(k), rc)

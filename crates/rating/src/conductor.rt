@@ -1,9 +1,6 @@
 // Stages 3 and 4 on a case whose z passed refusal 8.
-ghost use mathlib.Core.Path.{_≡_};
-ghost use Rattle.rating.specs.Arrangements.{own};
-ghost use Rattle.rating.specs.Laws.Fit.{Fit};
 ghost use Rattle.rating.specs.Laws.Steps.{Conducts};
-ghost use Rattle.rating.specs.Values.{R', zs, zp};
+ghost use Rattle.rating.specs.Laws.Takes.{ConductorTakes};
 use super::case::number;
 use fields::CONDUCTOR_DIAMETER;
 use fields::Case;
@@ -22,7 +19,7 @@ pub struct Conduction {
 
 // `skin` is z with ks, and `proximity` z with kp.
 pub(crate) fn conductor(x: Case, rc: u64, skin: u64, proximity: u64) -> Conduction
-    requires { ⌜ Fit (own x) x × (rc ≡ R' x) × (skin ≡ zs x) × (proximity ≡ zp x) ⌝ }
+    requires { ⌜ ConductorTakes x rc skin proximity ⌝ }
     ensures { λ h. ⌜ Conducts x h ⌝ }
 {
     let ys = factor(skin);

@@ -1,10 +1,9 @@
 // Stage 9 on a case.
 ghost use mathlib.Core.Path.{_≡_};
-ghost use Prim.Native.Nat.{_≤_};
 ghost use Rattle.formulas.specs.Dielectric.{dielectricRise};
 ghost use Rattle.fields.specs.Fields as Field;
-ghost use Rattle.rating.specs.Laws.Sound.{Sound};
-ghost use Rattle.rating.specs.Values.{B, Wd};
+ghost use Rattle.rating.specs.Laws.Takes.{DielectricLossTakes, DielectricRiseTakes};
+ghost use Rattle.rating.specs.Values.{Wd};
 use super::case::number;
 use fields::Case;
 use fields::INSULATION_DIAMETER;
@@ -21,7 +20,7 @@ use stages::dielectric::dielectric_rise;
 use stages::logarithm::log_low;
 
 pub(crate) fn dielectric_loss_of(x: Case, b: u64) -> u64
-    requires { ⌜ Sound x × (b ≡ B x) ⌝ }
+    requires { ⌜ DielectricLossTakes x b ⌝ }
     ensures { λ r. ⌜ r ≡ Wd x ⌝ }
 {
     dielectric_loss(
@@ -34,7 +33,7 @@ pub(crate) fn dielectric_loss_of(x: Case, b: u64) -> u64
 }
 
 pub(crate) fn dielectric_rise_of(x: Case, n: u64, wd: u64) -> u64
-    requires { ⌜ Sound x × (n ≤ 3) × (wd ≡ Wd x) ⌝ }
+    requires { ⌜ DielectricRiseTakes x n wd ⌝ }
     ensures { λ r. ⌜ r ≡ dielectricRise n (Wd x) (Field.t1 x) (Field.t2 x) (Field.t3 x) (Field.t4 x) ⌝ }
 {
     dielectric_rise(

@@ -1,9 +1,7 @@
 // Stage 6 on a case whose sheaths do not overlap: X, and X- from below.
 ghost use mathlib.Core.Path.{_≡_};
-ghost use Prim.Native.Nat.{_≤_};
-ghost use Rattle.fields.specs.Fields.{sheathDiameter, spacing};
-ghost use Rattle.rating.specs.Laws.Sound.{Sound};
-ghost use Rattle.rating.specs.Values.{B, X, XLow};
+ghost use Rattle.rating.specs.Laws.Takes.{SheathsApart, SheathReactanceTakes};
+ghost use Rattle.rating.specs.Values.{X, XLow};
 use super::case::number;
 use fields::ARRANGEMENT;
 use fields::Case;
@@ -17,7 +15,7 @@ use stages::spacing::spacing_log_high;
 use stages::spacing::spacing_log_low;
 
 pub(crate) fn sheath_reactance_of(x: Case, b: u64) -> u64
-    requires { ⌜ Sound x × (sheathDiameter x ≤ spacing x) × (b ≡ B x) ⌝ }
+    requires { ⌜ SheathReactanceTakes x b ⌝ }
     ensures { λ r. ⌜ r ≡ X x ⌝ }
 {
     sheath_reactance(
@@ -31,7 +29,7 @@ pub(crate) fn sheath_reactance_of(x: Case, b: u64) -> u64
 }
 
 pub(crate) fn sheath_reactance_low_of(x: Case) -> u64
-    requires { ⌜ Sound x × (sheathDiameter x ≤ spacing x) ⌝ }
+    requires { ⌜ SheathsApart x ⌝ }
     ensures { λ r. ⌜ r ≡ XLow x ⌝ }
 {
     sheath_reactance_low(

@@ -1,2 +1,3 @@
 -- What the contracts of this crate say beyond the definitions of `formulas`. Assumes nothing.
 pub mod Reduced
+pub mod Laws

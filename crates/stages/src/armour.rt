@@ -1,8 +1,7 @@
 // Stage 8: the loss in the armour.
 ghost use mathlib.Core.Path.{_≡_};
-ghost use Prim.Native.Nat.{_*_, _≤_, _<_};
 ghost use Rattle.formulas.specs.Armour.{reducedArmourResistance, unscreenedLoss, screeningRatioSquared, screenedLoss};
-ghost use Rattle.formulas.specs.Laws.Bounds.{leastSheathResistance, mostResistance, leastReactance, mostSheathReactance, mostArmourLoss};
+ghost use Rattle.stages.specs.Laws.Ranges.{BondRatioRanges, ReducedArmourRanges, UnscreenedRanges, ScreenedRanges};
 use wide::ratio::mul_div_down;
 use wide::ratio::mul_div_up;
 use wide::trillion::T;
@@ -10,7 +9,7 @@ use wide::trillion::mul_div_down_trillion;
 use wide::trillion::mul_div_up_trillion;
 
 fn reduced_armour_resistance(ra: u64, b: u64) -> u64
-    requires { ⌜ (ra ≤ mostResistance) × (leastReactance ≤ b) ⌝ }
+    requires { ⌜ ReducedArmourRanges ra b ⌝ }
     ensures { λ r. ⌜ r ≡ reducedArmourResistance ra b ⌝ }
 {
     let y = mul_div_down(554000000000, ra, b);
@@ -19,7 +18,7 @@ fn reduced_armour_resistance(ra: u64, b: u64) -> u64
 }
 
 pub fn unscreened_loss(ra: u64, b: u64, c: u64, da: u64) -> u64
-    requires { ⌜ (ra ≤ mostResistance) × (leastReactance ≤ b) × (0 < da) × (da ≤ 50000) × (2 * c ≤ da) ⌝ }
+    requires { ⌜ UnscreenedRanges ra b c da ⌝ }
     ensures { λ r. ⌜ r ≡ unscreenedLoss ra b c da ⌝ }
 {
     let place = mul_div_up(4 * (c * c), T, da * da);
@@ -31,7 +30,7 @@ pub fn unscreened_loss(ra: u64, b: u64, c: u64, da: u64) -> u64
 }
 
 fn screening_ratio_squared(x: u64, rs: u64) -> u64
-    requires { ⌜ (x ≤ mostSheathReactance) × (leastSheathResistance ≤ rs) ⌝ }
+    requires { ⌜ BondRatioRanges x rs ⌝ }
     ensures { λ r. ⌜ r ≡ screeningRatioSquared x rs ⌝ }
 {
     let v = mul_div_down(x, T, rs);
@@ -39,7 +38,7 @@ fn screening_ratio_squared(x: u64, rs: u64) -> u64
 }
 
 pub fn screened_loss(w: u64, x: u64, rs: u64) -> u64
-    requires { ⌜ (w ≤ mostArmourLoss) × (x ≤ mostSheathReactance) × (leastSheathResistance ≤ rs) ⌝ }
+    requires { ⌜ ScreenedRanges w x rs ⌝ }
     ensures { λ r. ⌜ r ≡ screenedLoss w x rs ⌝ }
 {
     let v2 = screening_ratio_squared(x, rs);

@@ -1,10 +1,11 @@
 // Stage 5: the two ends of a logarithm. Each loop is one of the paper's sums.
 ghost use mathlib.Core.Path.{_≡_};
-ghost use Prim.Native.Nat.{_*_, _≤_, _<_};
+ghost use Prim.Native.Nat.{_≤_};
 ghost use Rattle.exact.specs.Rounding.{up, down};
 ghost use Rattle.formulas.specs.Logarithm.{thirteenTerms, logLow, logHigh};
 ghost use Rattle.formulas.specs.Laws.Bounds.{mostPower};
 ghost use Rattle.stages.specs.Reduced.{IsReduced};
+ghost use Rattle.stages.specs.Laws.Ranges.{OctaveRanges, LogRanges};
 use super::constants::LN2_HIGH;
 use super::constants::LN2_LOW;
 use wide::ratio::mul_div_down;
@@ -21,7 +22,7 @@ pub struct Reduced {
 }
 
 fn reduce(a: u64, b: u64) -> Reduced
-    requires { ⌜ (0 < b) × (b ≤ a) × (a ≤ 2000000) ⌝ }
+    requires { ⌜ OctaveRanges a b ⌝ }
     ensures { λ r. ⌜ IsReduced a b (r .octaves) (r .num) (r .den) ⌝ }
 {
     let mut octaves: u64 = 0;
@@ -78,7 +79,7 @@ fn thirteen_terms_down(first: u64) -> u64
 }
 
 pub fn log_high(a: u64, b: u64) -> u64
-    requires { ⌜ (0 < b) × (b ≤ a) × (a ≤ 2000000) × (a < 32768 * b) ⌝ }
+    requires { ⌜ LogRanges a b ⌝ }
     ensures { λ r. ⌜ r ≡ logHigh a b ⌝ }
 {
     let z = reduce(a, b);
@@ -86,7 +87,7 @@ pub fn log_high(a: u64, b: u64) -> u64
 }
 
 pub fn log_low(a: u64, b: u64) -> u64
-    requires { ⌜ (0 < b) × (b ≤ a) × (a ≤ 2000000) × (a < 32768 * b) ⌝ }
+    requires { ⌜ LogRanges a b ⌝ }
     ensures { λ r. ⌜ r ≡ logLow a b ⌝ }
 {
     let z = reduce(a, b);

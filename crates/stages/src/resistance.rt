@@ -1,11 +1,9 @@
 // Stage 1: a resistance at a temperature.
 ghost use mathlib.Core.Path.{_≡_};
-ghost use Prim.Native.Nat.{_≤_};
-ghost use lib.IntN.{pos, negℤ};
-ghost use lib.Signed.{_≤ℤ_};
 ghost use mir.Syntax.{w32};
 ghost use mir.Val.{toZ};
-ghost use Rattle.formulas.specs.Resistance.{temperatureFactor, resistance};
+ghost use Rattle.formulas.specs.Resistance.{resistance};
+ghost use Rattle.stages.specs.Laws.Ranges.{FactorRanges, IsFactor, ResistanceRanges};
 
 // A word read as two's complement.
 pub fn signed(word: u32) -> i64
@@ -20,14 +18,14 @@ pub fn signed(word: u32) -> i64
 
 // 10^7 + α(θ - 2000): above 0, however cold it is.
 fn temperature_factor(alpha: u32, theta: u32) -> u64
-    requires { ⌜ (alpha ≤ 450) × (negℤ (pos 4000) ≤ℤ toZ w32 theta) × (toZ w32 theta ≤ℤ pos 25000) ⌝ }
-    ensures { λ r. ⌜ (pos r ≡ temperatureFactor alpha (toZ w32 theta)) × (r ≤ 20350000) ⌝ }
+    requires { ⌜ FactorRanges alpha (toZ w32 theta) ⌝ }
+    ensures { λ r. ⌜ IsFactor alpha (toZ w32 theta) r ⌝ }
 {
     (10000000 + alpha as i64 * (signed(theta) - 2000)) as u64
 }
 
 pub fn resistance(field: u32, alpha: u32, theta: u32) -> u64
-    requires { ⌜ (field ≤ 20000000) × (alpha ≤ 450) × (negℤ (pos 4000) ≤ℤ toZ w32 theta) × (toZ w32 theta ≤ℤ pos 25000) ⌝ }
+    requires { ⌜ ResistanceRanges field alpha (toZ w32 theta) ⌝ }
     ensures { λ r. ⌜ r ≡ resistance field alpha (toZ w32 theta) ⌝ }
 {
     field as u64 * temperature_factor(alpha, theta)

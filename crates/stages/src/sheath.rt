@@ -1,6 +1,5 @@
 // Stage 7: the loss in the sheath.
 ghost use mathlib.Core.Path.{_≡_};
-ghost use Prim.Native.Nat.{_*_, _≤_, _<_};
 ghost use Rattle.formulas.specs.Sheath.{
   bondRatio,
   bondRatioSquared,
@@ -12,13 +11,13 @@ ghost use Rattle.formulas.specs.Sheath.{
   eddySpacing,
   eddyLoss,
 };
-ghost use Rattle.formulas.specs.Laws.Bounds.{leastSheathResistance, mostResistance, mostSheathReactance};
+ghost use Rattle.stages.specs.Laws.Ranges.{SpacingRanges, BondRatioRanges, CirculatingRanges, EddyFactorRanges, EddyLossRanges};
 use wide::ratio::mul_div_up;
 use wide::trillion::T;
 use wide::trillion::mul_div_up_trillion;
 
 fn bond_ratio_squared(x: u64, rs: u64) -> u64
-    requires { ⌜ (x ≤ mostSheathReactance) × (leastSheathResistance ≤ rs) ⌝ }
+    requires { ⌜ BondRatioRanges x rs ⌝ }
     ensures { λ r. ⌜ r ≡ bondRatioSquared (bondRatio x rs) ⌝ }
 {
     let v = mul_div_up(x, T, rs);
@@ -26,7 +25,7 @@ fn bond_ratio_squared(x: u64, rs: u64) -> u64
 }
 
 pub fn circulating_loss(x: u64, rs: u64) -> u64
-    requires { ⌜ (x ≤ mostSheathReactance) × (leastSheathResistance ≤ rs) × (rs ≤ mostResistance) ⌝ }
+    requires { ⌜ CirculatingRanges x rs ⌝ }
     ensures { λ r. ⌜ r ≡ circulatingLoss x rs ⌝ }
 {
     let v2 = bond_ratio_squared(x, rs);
@@ -34,14 +33,14 @@ pub fn circulating_loss(x: u64, rs: u64) -> u64
 }
 
 pub fn sl_loss(x: u64, rs: u64) -> u64
-    requires { ⌜ (x ≤ mostSheathReactance) × (leastSheathResistance ≤ rs) × (rs ≤ mostResistance) ⌝ }
+    requires { ⌜ CirculatingRanges x rs ⌝ }
     ensures { λ r. ⌜ r ≡ slLoss x rs ⌝ }
 {
     (3 * circulating_loss(x, rs) + 1) / 2
 }
 
 fn eddy_factor(b: u64, rs: u64) -> u64
-    requires { ⌜ (0 < rs) × (rs ≤ mostResistance) × (5 * b ≤ rs) ⌝ }
+    requires { ⌜ EddyFactorRanges b rs ⌝ }
     ensures { λ r. ⌜ r ≡ eddyFactor (eddyRatioSquared (eddyRatio b rs)) ⌝ }
 {
     let m = mul_div_up(b, T, 2 * rs);
@@ -50,14 +49,14 @@ fn eddy_factor(b: u64, rs: u64) -> u64
 }
 
 fn eddy_spacing(d: u64, s: u64) -> u64
-    requires { ⌜ (0 < s) × (s ≤ 1000000) × (d ≤ s) ⌝ }
+    requires { ⌜ SpacingRanges d s ⌝ }
     ensures { λ r. ⌜ r ≡ eddySpacing d s ⌝ }
 {
     mul_div_up(d * d, T, 4 * (s * s))
 }
 
 pub fn eddy_loss(j: u64, b: u64, rs: u64, d: u64, s: u64) -> u64
-    requires { ⌜ (j ≤ 2) × (0 < rs) × (rs ≤ mostResistance) × (5 * b ≤ rs) × (0 < s) × (s ≤ 1000000) × (d ≤ s) ⌝ }
+    requires { ⌜ EddyLossRanges j b rs d s ⌝ }
     ensures { λ r. ⌜ r ≡ eddyLoss j b rs d s ⌝ }
 {
     let inner = mul_div_up_trillion(rs, eddy_factor(b, rs));

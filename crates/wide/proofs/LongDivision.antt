@@ -16,6 +16,7 @@ use native.Mathlib.Nat.{
 use native.Mathlib.Decide.{decLe}
 use native.Mathlib.Omega.{arith}
 use Rattle.wide.specs.Split.{Split}
+use Rattle.wide.specs.Laws.Ranges.{DigitRanges, IsRemaining}
 
 -- The guess for the digit of u·2^32 + d over v is q = u / upper v. What it leaves of the number is `have`, before q times
 -- the lower half of v is taken off, which is `owed`.
@@ -29,7 +30,7 @@ have u d v = u % upper v * 4294967296 + d
 abbrev pub owed : ℕ → ℕ → ℕ
 owed u v = u / upper v * (v % 4294967296)
 
-module _ (u d v : ℕ) (pre : (2 ^ 63 ≤ v) × (u < v) × (d < 2 ^ 32)) where
+module _ (u d v : ℕ) (pre : DigitRanges u d v) where
   balance : u / upper v * v + have u d v ≡ u * 2 ^ 32 + d + owed u v
   balance =
       omega (
@@ -65,15 +66,15 @@ module _ (u d v : ℕ) (pre : (2 ^ 63 ≤ v) × (u < v) × (d < 2 ^ 32)) where
 
   -- and the digit is that much below the guess, where no more than v is missing
   pub near-guess : (k r : ℕ) → k ≡ 1 - (1 - (owed u v - have u d v)) → owed u v ≤ have u d v + v →
-      (owed u v ≤ have u d v → r + owed u v ≡ have u d v) × (have u d v < owed u v → r + owed u v ≡ have u d v + v) →
+      IsRemaining (have u d v) (owed u v) v r →
       Split (u * 2 ^ 32 + d) v (u / upper v - k) r
   near-guess k r sign most rest = either (decLe (owed u v) (have u d v))
     where
       either : Dec (owed u v ≤ have u d v) → Split (u * 2 ^ 32 + d) v (u / upper v - k) r
-      either (yes h) = digit-is 0 (omega arith) (omega (arith, rest .0 h)) (omega (arith, rest .0 h, have-below))
+      either (yes h) = digit-is 0 (omega arith) (omega (arith, rest .enough h)) (omega (arith, rest .enough h, have-below))
       either (no f) =
           let more : have u d v < owed u v = omega (arith, f) in
-          digit-is 1 (omega (arith, more-than 0 (omega arith))) (omega (arith, rest .1 more)) (omega (arith, rest .1 more))
+          digit-is 1 (omega (arith, more-than 0 (omega arith))) (omega (arith, rest .short more)) (omega (arith, rest .short more))
 
 -- two digits are one quotient
 pub two-digits : (l B : ℕ) {n v q r q′ r′ : ℕ} → Split n v q r → Split (r * B + l) v q′ r′ → Split (n * B + l) v (q * B + q′) r′

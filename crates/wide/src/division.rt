@@ -3,6 +3,7 @@ ghost use mathlib.Core.Path.{_≡_};
 ghost use Prim.Native.Nat.{_+_, _-_, _*_, _^_, _≤_, _<_};
 ghost use Rattle.wide.specs.Shift.{IsShift};
 ghost use Rattle.wide.specs.Split.{Split, upward};
+ghost use Rattle.wide.specs.Laws.Ranges.{DigitRanges, IsRemaining};
 
 pub struct Divided {
     pub quotient: u64,
@@ -40,7 +41,7 @@ fn sign(n: u64) -> u64
 // What is left of a after b, with v added to a where b is more.
 fn remaining(a: u64, b: u64, v: u64) -> u64
     requires { ⌜ b ≤ a + v ⌝ }
-    ensures { λ r. ⌜ (b ≤ a → r + b ≡ a) × (a < b → r + b ≡ a + v) ⌝ }
+    ensures { λ r. ⌜ IsRemaining a b v r ⌝ }
 {
     if b <= a {
         return a - b;
@@ -52,7 +53,7 @@ fn remaining(a: u64, b: u64, v: u64) -> u64
 // the divisor has its top bit set. 2 too large is rare, and the only branch: between right and 1 too large no processor can
 // tell beforehand, so that is left to the functions above, which compile to none.
 fn digit(u: u64, next: u64, v: u64) -> Divided
-    requires { ⌜ (2 ^ 63 ≤ v) × (u < v) × (next < 2 ^ 32) ⌝ }
+    requires { ⌜ DigitRanges u next v ⌝ }
     ensures { λ r. ⌜ Split (u * 2 ^ 32 + next) v (r .quotient) (r .rest) ⌝ }
 {
     let upper = v / 4294967296;

@@ -1,7 +1,8 @@
 // The square root of a u64, rounded down: a guess by a table, one step of Newton's method from it, which brings it to the
 // root or above, and more steps while it is above. The guess decides only how many steps there are: mostly one.
-ghost use Prim.Native.Nat.{_+_, _*_, _^_, _<_};
+ghost use Prim.Native.Nat.{_^_, _<_};
 ghost use Rattle.exact.specs.Root.{IsRoot};
+ghost use Rattle.wide.specs.Laws.Ranges.{GuessRange, RootOrAbove};
 use super::division::shift_of;
 
 // The curve of the roots from i/32 to (i + 1)/32, as 24, 20 and 20 bits: where it starts, how far it rises, and four times
@@ -49,7 +50,7 @@ fn point(p: u64, right: u64) -> u64
 // x is shifted by an even number of bits to 2^62 or above: its 5 top bits choose a piece, and the 16 below them a point.
 fn guess(x: u64) -> u64
     requires { ⌜ 0 < x ⌝ }
-    ensures { λ r. ⌜ (1 < r) × (r < 2 ^ 63) ⌝ }
+    ensures { λ r. ⌜ GuessRange r ⌝ }
 {
     let s = shift_of(x);
     let even = s - s % 2;
@@ -61,8 +62,8 @@ fn guess(x: u64) -> u64
 
 // One step of Newton's method: from any guess it comes to the root or above.
 fn stepped(x: u64, g: u64) -> u64
-    requires { ⌜ (1 < g) × (g < 2 ^ 63) ⌝ }
-    ensures { λ r. ⌜ (r < 4294967296) × (x < (r + 1) * (r + 1)) ⌝ }
+    requires { ⌜ GuessRange g ⌝ }
+    ensures { λ r. ⌜ RootOrAbove x r ⌝ }
 {
     let r = (g + x / g) / 2;
     // no root of a u64 is above this, and the square of more would not fit

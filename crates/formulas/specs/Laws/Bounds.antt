@@ -1,9 +1,76 @@
--- How large and how small the stages' numbers get within the limits of the fields (docs/RATING.md), as the code of the stages requires
--- and the laws use. Each is a plain number with a name; that it bounds what it is named for is proved in Laws.Ranges and Laws.LogRange,
+-- The limits of the fields (docs/RATING.md) as the code of the stages requires them, and how large and how small the stages' numbers get
+-- within them. Each is a plain number with a name; that it bounds what it is named for is proved in Laws.Ranges and Laws.LogRange,
 -- or where `stages` uses it. Assumes nothing.
 use Prim.Native.Nat.{ℕ}
+use lib.IntN.{ℤ, pos, negℤ}
+
+-- The fields, and what the tables have for their codes.
+
+abbrev pub mostConductorCode : ℕ
+mostConductorCode = 8
+
+abbrev pub mostMetalCode : ℕ
+mostMetalCode = 6
+
+-- α, and k, which is ks or kp
+abbrev pub mostCoefficient : ℕ
+mostCoefficient = 450
+
+abbrev pub mostK : ℕ
+mostK = 1000
+
+abbrev pub mostFrequency : ℕ
+mostFrequency = 6500
+
+-- θs and θA, whose limits θc keeps
+abbrev pub leastTemperature : ℤ
+leastTemperature = negℤ (pos 4000)
+
+abbrev pub mostTemperature : ℤ
+mostTemperature = pos 25000
+
+-- R0, Rs0 and RA0
+abbrev pub mostFieldResistance : ℕ
+mostFieldResistance = 20000000
+
+abbrev pub mostSpacing : ℕ
+mostSpacing = 1000000
+
+abbrev pub mostArmourDiameter : ℕ
+mostArmourDiameter = 50000
+
+abbrev pub mostVoltage : ℕ
+mostVoltage = 300000
+
+abbrev pub mostPermittivity : ℕ
+mostPermittivity = 800
+
+abbrev pub mostLossFactor : ℕ
+mostLossFactor = 10000
+
+abbrev pub mostT1 : ℕ
+mostT1 = 10000000
+
+abbrev pub mostT2 : ℕ
+mostT2 = 10000000
+
+abbrev pub mostT3 : ℕ
+mostT3 = 10000000
+
+abbrev pub mostT4 : ℕ
+mostT4 = 20000000
+
+-- n and j in any arrangement
+abbrev pub mostCores : ℕ
+mostCores = 3
+
+abbrev pub mostJ : ℕ
+mostJ = 2
 
 -- Stage 1, whose factor goes from 7300000 (α 450 at -40 °C) to 20350000 (α 450 at 250 °C).
+
+abbrev pub mostTemperatureFactor : ℕ
+mostTemperatureFactor = 20350000
 
 -- R': 5000 nΩ/m at the least factor
 abbrev pub leastConductorResistance : ℕ
@@ -48,6 +115,14 @@ abbrev pub mostAcResistance : ℕ
 mostAcResistance = 788000000000000
 
 -- Stage 5, with a/b below 2^15.
+
+-- a, which is 2s or Di: twice the largest spacing
+abbrev pub mostLogNumerator : ℕ
+mostLogNumerator = 2000000
+
+-- a/b stays below this
+abbrev pub logRatioLimit : ℕ
+logRatioLimit = 32768
 
 -- a power: ζ is at most a third
 abbrev pub mostPower : ℕ
@@ -143,6 +218,16 @@ abbrev pub mostCurrentRise : ℕ
 mostCurrentRise = 290000000000
 
 -- Stage 10: E from the least R and T1 alone, and from the largest of everything.
+
+-- a part of E, the rise across one thermal resistance: R, S and W of three cores and a little more, T3 with T4, and their product
+abbrev pub mostPartLoss : ℕ
+mostPartLoss = 6000000000000000
+
+abbrev pub mostPartResistance : ℕ
+mostPartResistance = 30000000
+
+abbrev pub mostPartRise : ℕ
+mostPartRise = 180000000000000000
 
 abbrev pub leastUnitRise : ℕ
 leastUnitRise = 36500000

@@ -1,5 +1,6 @@
 -- The range of each value of a case that does not depend on the arrangement alone: what the stages' code requires of it, from the
 -- limits of the fields. Assumes nothing.
+use mathlib.Core.Path.{_≡_}
 use mathlib.Core.List.{List}
 use Prim.Native.Nat.{ℕ, _*_, _≤_, _<_}
 use native.Mathlib.Nat.{le-trans, mul-le-mul}
@@ -37,6 +38,7 @@ use Rattle.formulas.specs.Laws.CloseSpacing.{sheathReactance-least, spacingLogH
 use Rattle.formulas.specs.Laws.CloseSpacingLow.{sheathReactanceLow-least}
 use Rattle.formulas.specs.Laws.Ranges as Law
 use Rattle.formulas.specs.Laws.Ranges.{In}
+use Rattle.stages.specs.Laws.Ranges.{ThermalRanges, CirculatingRanges}
 use Rattle.fields.specs.Fields as Field
 use Rattle.rating.specs.Values.{R', Rs, B, zs, zp, ys, G, yp, R, X, XLow, Wd}
 use Rattle.rating.specs.Laws.Sound.{Sound}
@@ -88,6 +90,17 @@ module _ {x : List ℕ} (fine : Sound x) where
   unfolding Wd dielectricLoss
   Wd-most = Law.dielectricLoss-most loss-product (B-range .most) (insulationLog-range .least)
 
+  -- T1 to T4, which stages 9 and 10 take
+  pub thermal-ranges :
+      {t1 t2 t3 t4 : ℕ} → t1 ≡ Field.t1 x → t2 ≡ Field.t2 x → t3 ≡ Field.t3 x → t4 ≡ Field.t4 x → ThermalRanges t1 t2 t3 t4
+  thermal-ranges t1-is t2-is t3-is t4-is =
+      record {
+        t1-most = omega (arith, fine .t1);
+        t2-most = omega (arith, fine .t2);
+        t3-most = omega (arith, fine .t3);
+        t4-most = omega (arith, fine .t4);
+      }
+
   -- after refusal 8
   module _ (zs≤ : zs x ≤ skinLimit) (zp≤ : zp x ≤ skinLimit) where
     pub ys-most : ys x ≤ mostSkinFactor
@@ -135,6 +148,14 @@ module _ {x : List ℕ} (fine : Sound x) where
         record {
           least = sheathReactance-least (B-range .least) (spacingLogHigh-least (Field.arrangement x) d>0 apart);
           most = Law.sheathReactance-most (B-range .most) spacingLogHigh-most;
+        }
+
+    -- what a circulating current's loss takes
+    pub circulating-ranges : {r rs : ℕ} → r ≡ X x → rs ≡ Rs x → CirculatingRanges r rs
+    circulating-ranges r-is rs-is =
+        record {
+          ratio = record { x-most = omega (arith, X-range); rs-least = omega (arith, Rs-range) };
+          rs-most = omega (arith, Rs-range);
         }
 
     pub XLow-range : In leastSheathReactanceLow mostSheathReactance (XLow x)

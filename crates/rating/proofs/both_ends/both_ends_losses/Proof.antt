@@ -1,26 +1,21 @@
 -- `both_ends_losses` is the definition.
 use mathlib.Core.Path.{refl, _∙_}
-use native.Mathlib.Omega.{arith}
 use Rattle.formulas.specs.Sheath.{circulatingLoss}
 use Rattle.rating.specs.Arrangement.{alternating}
 use Rattle.rating.specs.BothEnds.{bothEnds}
-use Rattle.rating.specs.Laws.Fit.{Fit}
-use Rattle.rating.specs.Laws.Ranges.{Rs-range, X-range}
+use Rattle.rating.specs.Laws.Ranges.{circulating-ranges}
 use Rattle.rating.specs.Laws.BothEnds.{both-ends-apart}
 use Rattle.rating.proofs.both_ends.both_ends_losses.Statement.{statement}
 use Rattle.rating.proofs.both_ends.both_ends_losses.Tie as tie
 
 sheath-reactance-of-requires : tie.Need-sheath-reactance-of-requires
-sheath-reactance-of-requires c κs = (c .pre .0 .sound, both-ends-apart (c .pre .0), c .pre .1)
+sheath-reactance-of-requires c κs =
+    record { sheaths = record { sound = c .pre .0 .sound; apart = both-ends-apart (c .pre .0) }; b-is = c .pre .1 }
 
 circulating-loss-requires : tie.Need-circulating-loss-requires
 circulating-loss-requires c κs =
-    let fit : Fit bothEnds (c .before .args .x) = c .before .pre .0 in
-    let rs = Rs-range (fit .sound) in (
-      omega (arith, c .sheath-reactance-of .ensures, X-range (fit .sound) (both-ends-apart fit)),
-      omega (arith, c .before .pre .2, rs),
-      omega (arith, c .before .pre .2, rs),
-    )
+    let pre = c .before .pre in
+    circulating-ranges (pre .0 .sound) (both-ends-apart (pre .0)) (c .sheath-reactance-of .ensures) (pre .2)
 
 returns : tie.Need-returns
 unfolding bothEnds alternating

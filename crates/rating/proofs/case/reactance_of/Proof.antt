@@ -11,11 +11,11 @@ use Rattle.rating.proofs.case.reactance_of.Tie as tie
 reactance-requires : tie.Need-reactance-requires
 reactance-requires c κs =
     let fine : Sound (c .before .args .t1) = c .before .pre in
-    omega (arith, c .number .ensures .0, fine .frequency)
+    omega (arith, c .number .ensures .same, fine .frequency)
 
 returns : tie.Need-returns
 unfolding B
-returns c = c .reactance .ensures ∙ ap reactance (c .before .number .ensures .0)
+returns c = c .reactance .ensures ∙ ap reactance (c .before .number .ensures .same)
 
 pub reactance-of-spec : {M : Type 1} → statement M
 reactance-of-spec = tie.close (tie.spec (λ c. search needs) (λ c κs. search needs) reactance-requires returns)

@@ -9,17 +9,20 @@ use Rattle.rating.proofs.case.resistance_of.Statement.{statement}
 use Rattle.rating.proofs.case.resistance_of.Tie as tie
 
 coefficient-requires : tie.Need-coefficient-requires
-coefficient-requires c κs = (c .pre .code .least, c .pre .code .most)
+coefficient-requires c κs = c .pre .code
 
 resistance-requires : tie.Need-resistance-requires
 resistance-requires c κs =
-    let start = c .before in
-    let metal = start .pre in (
-      metal .resistance,
-      omega (arith, c .coefficient .ensures, coefficient-most (start .args .metal)),
-      metal .temperature .least,
-      metal .temperature .most,
-    )
+    let limits = c .before .pre in
+    record {
+      field-most = limits .resistance;
+      factor =
+          record {
+            α-most = omega (arith, c .coefficient .ensures, coefficient-most (c .before .args .metal));
+            θ-least = limits .temperature .least;
+            θ-most = limits .temperature .most;
+          };
+    }
 
 returns : tie.Need-returns
 returns c =

@@ -6,7 +6,7 @@ use Rattle.rating.proofs.field_refusals.geometry_refused.Tie as tie
 
 returns : tie.Need-returns
 unfolding geometryRefused
-returns c = simp (c .before .number .ensures .0, c .number2 .ensures .0, c .before .before .pre)
+returns c = simp (c .before .number .ensures .same, c .number2 .ensures .same, c .before .before .pre)
 
 pub geometry-refused-spec : {M : Type 1} → statement M
 geometry-refused-spec =

@@ -16,15 +16,22 @@ eddy-loss-requires c κs =
     let start = c .before .before in
     let fit : Fit (onePoint (start .args .j)) (start .args .t1) = start .pre .0 in
     let rs = Rs-range (fit .sound) in
-    let apart = one-point-apart (start .args .j) fit in (
-      start .pre .3,
-      omega (arith, start .pre .2, rs),
-      omega (arith, start .pre .2, rs),
-      omega (arith, start .pre .1, start .pre .2, eddies-small (start .args .j) fit),
-      omega (arith, c .number2 .ensures .0, fit .sound .spacing),
-      omega (arith, c .number2 .ensures .0, fit .sound .spacing),
-      omega (arith, c .number2 .ensures .0, c .before .number .ensures .0, apart),
-    )
+    let apart = one-point-apart (start .args .j) fit in
+    record {
+      j-most = start .pre .3;
+      factor =
+          record {
+            rs>0 = omega (arith, start .pre .2, rs);
+            rs-most = omega (arith, start .pre .2, rs);
+            b-most = omega (arith, start .pre .1, start .pre .2, eddies-small (start .args .j) fit);
+          };
+      spacing =
+          record {
+            s>0 = omega (arith, c .number2 .ensures .same, fit .sound .spacing);
+            s-most = omega (arith, c .number2 .ensures .same, fit .sound .spacing);
+            apart = omega (arith, c .number2 .ensures .same, c .before .number .ensures .same, apart);
+          };
+    }
 
 returns : tie.Need-returns
 unfolding onePoint alternating
@@ -32,8 +39,8 @@ returns c =
     let start = c .before .before .before in
     let b = start .pre .1 in
     let rs = start .pre .2 in
-    let d = c .before .before .number .ensures .0 in
-    let s = c .before .number2 .ensures .0 in
+    let d = c .before .before .number .ensures .same in
+    let s = c .before .number2 .ensures .same in
     record {
       n-is = refl;
       ra-is = refl;

@@ -22,7 +22,7 @@ mul-rating c = omega (arith, rise-most c)
 rating-requires : tie.Need-rating-requires
 rating-requires c κs =
     let pre = c .pre .0 in
-    (omega (arith, rise-most c), omega (arith, pre .3, E-range (pre .0)))
+    record { N-most = omega (arith, rise-most c); E-least = omega (arith, pre .3, E-range (pre .0)) }
 
 returns : tie.Need-returns
 unfolding currentOf N currentRise permittedRise

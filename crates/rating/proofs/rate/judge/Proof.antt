@@ -64,25 +64,29 @@ conductor-resistance-requires : tie.Need-conductor-resistance-requires
 conductor-resistance-requires c κs = fine c
 
 ks-requires : tie.Need-ks-requires
-ks-requires c κs =
-    let code = fine (c .before) .conductor in
-    (code .least, code .most)
+ks-requires c κs = fine (c .before) .conductor
 
 skin-ratio-of-requires : tie.Need-skin-ratio-of-requires
 skin-ratio-of-requires c κs =
     let start = c .before .before in
-    (fine start, omega (arith, c .ks .ensures, ks-most (Field.conductor (start .args .t1))), c .before .conductor-resistance .ensures)
+    record {
+      sound = fine start;
+      k-most = omega (arith, c .ks .ensures, ks-most (Field.conductor (start .args .t1)));
+      rc-is = c .before .conductor-resistance .ensures;
+    }
 
 kp-requires : tie.Need-kp-requires
-kp-requires c κs =
-    let code = fine (c .before .before .before) .conductor in
-    (code .least, code .most)
+kp-requires c κs = fine (c .before .before .before) .conductor
 
 skin-ratio-of-requires-2 : tie.Need-skin-ratio-of-requires-2
 skin-ratio-of-requires-2 c κs =
     let resistance = c .before .before .before in
     let start = resistance .before in
-    (fine start, omega (arith, c .kp .ensures, kp-most (Field.conductor (start .args .t1))), resistance .conductor-resistance .ensures)
+    record {
+      sound = fine start;
+      k-most = omega (arith, c .kp .ensures, kp-most (Field.conductor (start .args .t1)));
+      rc-is = resistance .conductor-resistance .ensures;
+    }
 
 returns : tie.Need-returns
 unfolding judged

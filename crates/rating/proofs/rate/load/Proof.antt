@@ -40,12 +40,12 @@ hot c =
     λ i. ltb (90000000 * rise i) (10 * dd i)
 
 dielectric-loss-of-requires : tie.Need-dielectric-loss-of-requires
-dielectric-loss-of-requires c κs = (c .pre .0 .sound, c .pre .1 .b-is)
+dielectric-loss-of-requires c κs = record { sound = c .pre .0 .sound; b-is = c .pre .1 .b-is }
 
 conductor-requires : tie.Need-conductor-requires
 conductor-requires c κs =
     let pre = c .before .pre in
-    (pre .0, pre .1 .rc-is, pre .1 .zs-is, pre .1 .zp-is)
+    record { fit = pre .0; rc-is = pre .1 .rc-is; skin-is = pre .1 .zs-is; proximity-is = pre .1 .zp-is }
 
 losses-of-requires : tie.Need-losses-of-requires
 losses-of-requires c κs =
@@ -55,7 +55,11 @@ losses-of-requires c κs =
 dielectric-rise-of-requires : tie.Need-dielectric-rise-of-requires
 dielectric-rise-of-requires c κs =
     let fit = start c .pre .0 in
-    (fit .sound, omega (arith, c .losses-of .ensures .n-is, numbers-in-range fit .n), c .before .before .dielectric-loss-of .ensures)
+    record {
+      sound = fit .sound;
+      n-most = omega (arith, c .losses-of .ensures .n-is, numbers-in-range fit .n);
+      wd-is = c .before .before .dielectric-loss-of .ensures;
+    }
 
 rise-requires : tie.Need-rise-requires
 rise-requires c κs = start (c .before) .pre .0 .sound

@@ -6,6 +6,7 @@ use Rattle.formulas.specs.Rating.{unitRise}
 use Rattle.rating.specs.Arrangements.{own}
 use Rattle.rating.specs.Stage10.{E}
 use Rattle.rating.specs.Laws.Fit.{Fit}
+use Rattle.rating.specs.Laws.Ranges.{thermal-ranges}
 use Rattle.rating.specs.Laws.Stage10.{numbers-in-range}
 use Rattle.rating.proofs.rate.unit_rise_of.Statement.{statement}
 use Rattle.rating.proofs.rate.unit_rise_of.Tie as tie
@@ -15,22 +16,19 @@ unit-rise-requires c κs =
     let second = c .before .before in
     let start = second .before .before in
     let fit : Fit (own (start .args .t1)) (start .args .t1) = start .pre .0 in
-    let fine = fit .sound in
     let ν = numbers-in-range fit in
-    let is = start .pre .1 in (
-      (
-        omega (arith, is .0, ν .n),
-        omega (arith, is .1, ν .R),
-        omega (arith, is .2, ν .S),
-        omega (arith, is .3, ν .W),
-      ),
-      (
-        omega (arith, second .before .number .ensures .0, fine .t1),
-        omega (arith, second .number2 .ensures .0, fine .t2),
-        omega (arith, c .before .number3 .ensures .0, fine .t3),
-        omega (arith, c .number4 .ensures .0, fine .t4),
-      ),
-    )
+    let is = start .pre .1 in
+    let t1 = second .before .number .ensures .same in
+    let t2 = second .number2 .ensures .same in
+    let t3 = c .before .number3 .ensures .same in
+    let t4 = c .number4 .ensures .same in
+    record {
+      n-most = omega (arith, is .0, ν .n);
+      r-most = omega (arith, is .1, ν .R);
+      s-most = omega (arith, is .2, ν .S);
+      w-most = omega (arith, is .3, ν .W);
+      thermal = thermal-ranges (fit .sound) t1 t2 t3 t4;
+    }
 
 returns : tie.Need-returns
 unfolding E
@@ -41,10 +39,10 @@ returns c =
     let r = is .1 in
     let s = is .2 in
     let w = is .3 in
-    let t1 = second .before .number .ensures .0 in
-    let t2 = second .number2 .ensures .0 in
-    let t3 = c .before .before .number3 .ensures .0 in
-    let t4 = c .before .number4 .ensures .0 in
+    let t1 = second .before .number .ensures .same in
+    let t2 = second .number2 .ensures .same in
+    let t3 = c .before .before .number3 .ensures .same in
+    let t4 = c .before .number4 .ensures .same in
     c .unit-rise .ensures ∙ (λ i. unitRise (n i) (r i) (s i) (w i) (t1 i) (t2 i) (t3 i) (t4 i))
 
 pub unit-rise-of-spec : {M : Type 1} → statement M

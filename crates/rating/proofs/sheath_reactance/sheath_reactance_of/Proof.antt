@@ -5,7 +5,6 @@ use native.Mathlib.Omega.{arith}
 use Rattle.formulas.specs.Spacing.{spacingLogHigh, sheathReactance}
 use Rattle.fields.specs.Fields as Field
 use Rattle.rating.specs.Values.{X}
-use Rattle.rating.specs.Laws.Sound.{Sound}
 use Rattle.rating.specs.Laws.Ranges.{B-range, spacingLogHigh-most}
 use Rattle.rating.proofs.sheath_reactance.sheath_reactance_of.Statement.{statement}
 use Rattle.rating.proofs.sheath_reactance.sheath_reactance_of.Tie as tie
@@ -16,25 +15,29 @@ log-is :
     c .spacing-log-high .result ≡ spacingLogHigh (Field.arrangement x) (Field.spacing x) (Field.sheathDiameter x)
 log-is c =
     let x = c .before .before .before .args .t1 in
-    let s = c .before .before .number .ensures .0 in
-    let d = c .before .number2 .ensures .0 in
+    let s = c .before .before .number .ensures .same in
+    let d = c .before .number2 .ensures .same in
     c .spacing-log-high .ensures ∙ (λ i. spacingLogHigh (Field.arrangement x) (s i) (d i))
 
 spacing-log-high-requires : tie.Need-spacing-log-high-requires
 spacing-log-high-requires c κs =
-    let start = c .before .before in
-    let fine : Sound (start .args .t1) = start .pre .0 in
-    omega (arith, c .number2 .ensures .0, c .before .number .ensures .0, fine .spacing, fine .sheathDiameter, start .pre .1)
+    let pre = c .before .before .pre .sheaths in
+    let fine = pre .sound in
+    omega (arith, c .number2 .ensures .same, c .before .number .ensures .same, fine .spacing, fine .sheathDiameter, pre .apart)
 
 sheath-reactance-requires : tie.Need-sheath-reactance-requires
 sheath-reactance-requires c κs =
     let pre = c .before .before .before .pre in
-    (omega (arith, pre .2, B-range (pre .0)), omega (arith, log-is c, spacingLogHigh-most (pre .0) (pre .1)))
+    let sheaths = pre .sheaths in
+    record {
+      b-most = omega (arith, pre .b-is, B-range (sheaths .sound));
+      l-most = omega (arith, log-is c, spacingLogHigh-most (sheaths .sound) (sheaths .apart));
+    }
 
 returns : tie.Need-returns
 unfolding X
 returns c =
-    let b = c .before .before .before .before .pre .2 in
+    let b = c .before .before .before .before .pre .b-is in
     let log = log-is (c .before) in
     c .sheath-reactance .ensures ∙ (λ i. sheathReactance (b i) (log i))
 

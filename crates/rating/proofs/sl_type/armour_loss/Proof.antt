@@ -22,26 +22,27 @@ unscreened-is c =
     let pre = c .before .before .before .pre in
     let ra = pre .3 in
     let b = pre .1 in
-    let d = c .before .before .number .ensures .0 in
-    let dA = c .before .number2 .ensures .0 in
+    let d = c .before .before .number .ensures .same in
+    let dA = c .before .number2 .ensures .same in
     c .unscreened-loss .ensures ∙ (λ i. unscreenedLoss (ra i) (b i) (d i) (dA i))
 
 unscreened-loss-requires : tie.Need-unscreened-loss-requires
 unscreened-loss-requires c κs =
     let start = c .before .before in
     let fit : Fit slType (start .args .t1) = start .pre .0 in
-    let known : Armoured (start .args .t1) = armoured fit in (
-      omega (arith, start .pre .3, RA-range fit),
-      omega (arith, start .pre .1, B-range (fit .sound)),
-      omega (arith, c .number2 .ensures .0, known .diameter),
-      omega (arith, c .number2 .ensures .0, known .diameter),
-      omega (arith, c .number2 .ensures .0, c .before .number .ensures .0, known .distance),
-    )
+    let known : Armoured (start .args .t1) = armoured fit in
+    record {
+      reduced =
+          record { ra-most = omega (arith, start .pre .3, RA-range fit); b-least = omega (arith, start .pre .1, B-range (fit .sound)) };
+      da>0 = omega (arith, c .number2 .ensures .same, known .diameter);
+      da-most = omega (arith, c .number2 .ensures .same, known .diameter);
+      c-most = omega (arith, c .number2 .ensures .same, c .before .number .ensures .same, known .distance);
+    }
 
 sheath-reactance-low-of-requires : tie.Need-sheath-reactance-low-of-requires
 sheath-reactance-low-of-requires c κs =
     let fit = c .before .before .before .pre .0 in
-    (fit .sound, armoured fit .apart)
+    record { sound = fit .sound; apart = armoured fit .apart }
 
 screened-loss-requires : tie.Need-screened-loss-requires
 screened-loss-requires c κs =
@@ -49,15 +50,20 @@ screened-loss-requires c κs =
     let x = start .args .t1 in
     let fit : Fit slType x = start .pre .0 in
     let known : Armoured x = armoured fit in
-    let dA>0 : 0 < Field.armourDiameter x = omega (arith, known .diameter) in (
-      omega (
-        arith,
-        unscreened-is (c .before),
-        unscreenedLoss-most (B x) (Field.axisDistance x) (RA-range fit .most) dA>0 (known .distance),
-      ),
-      omega (arith, c .sheath-reactance-low-of .ensures, XLow-range (fit .sound) (known .apart)),
-      omega (arith, start .pre .2, Rs-range (fit .sound)),
-    )
+    let dA>0 : 0 < Field.armourDiameter x = omega (arith, known .diameter) in
+    record {
+      w-most =
+          omega (
+            arith,
+            unscreened-is (c .before),
+            unscreenedLoss-most (B x) (Field.axisDistance x) (RA-range fit .most) dA>0 (known .distance),
+          );
+      ratio =
+          record {
+            x-most = omega (arith, c .sheath-reactance-low-of .ensures, XLow-range (fit .sound) (known .apart));
+            rs-least = omega (arith, start .pre .2, Rs-range (fit .sound));
+          };
+    }
 
 returns : tie.Need-returns
 unfolding armourLoss

@@ -1,12 +1,10 @@
 -- `sl_type_losses` is the definition.
 use borrow.Author.Needs.{needs}
 use mathlib.Core.Path.{refl, _∙_}
-use native.Mathlib.Omega.{arith}
 use Rattle.formulas.specs.Sheath.{slLoss}
 use Rattle.rating.specs.Arrangement.{alternating}
 use Rattle.rating.specs.SlType.{slType}
-use Rattle.rating.specs.Laws.Fit.{Fit}
-use Rattle.rating.specs.Laws.Ranges.{Rs-range, X-range}
+use Rattle.rating.specs.Laws.Ranges.{circulating-ranges}
 use Rattle.rating.specs.Laws.SlType.{armoured}
 use Rattle.rating.proofs.sl_type.sl_type_losses.Statement.{statement}
 use Rattle.rating.proofs.sl_type.sl_type_losses.Tie as tie
@@ -14,17 +12,12 @@ use Rattle.rating.proofs.sl_type.sl_type_losses.Tie as tie
 sheath-reactance-of-requires : tie.Need-sheath-reactance-of-requires
 sheath-reactance-of-requires c κs =
     let pre = c .before .pre in
-    (pre .0 .sound, armoured (pre .0) .apart, pre .1)
+    record { sheaths = record { sound = pre .0 .sound; apart = armoured (pre .0) .apart }; b-is = pre .1 }
 
 sl-loss-requires : tie.Need-sl-loss-requires
 sl-loss-requires c κs =
-    let start = c .before .before in
-    let fit : Fit slType (start .args .x) = start .pre .0 in
-    let rs = Rs-range (fit .sound) in (
-      omega (arith, c .sheath-reactance-of .ensures, X-range (fit .sound) (armoured fit .apart)),
-      omega (arith, start .pre .2, rs),
-      omega (arith, start .pre .2, rs),
-    )
+    let pre = c .before .before .pre in
+    circulating-ranges (pre .0 .sound) (armoured (pre .0) .apart) (c .sheath-reactance-of .ensures) (pre .2)
 
 returns : tie.Need-returns
 unfolding slType alternating

@@ -8,7 +8,7 @@ use Rattle.formulas.specs.Constants.{tera}
 use Rattle.formulas.specs.Armour.{armourRatio, armourRatioSquared, reducedArmourResistance}
 use Rattle.formulas.specs.Laws.LogRange.{down-bounded}
 use Rattle.formulas.specs.Laws.Bounds.{mostResistance, mostArmourRatio, mostArmourRatioSquared}
-use Rattle.stages.proofs.Quotients.{fits-up, fits-down, square-most, square-fits}
+use Rattle.stages.proofs.Quotients.{quotient-up, quotient-down, square-most, square-fits}
 use Rattle.stages.proofs.armour.reduced_armour_resistance.Statement.{statement}
 use Rattle.stages.proofs.armour.reduced_armour_resistance.Tie as tie
 
@@ -31,7 +31,7 @@ returns c =
 pub reduced-armour-resistance-spec : {M : Type 1} → statement M
 reduced-armour-resistance-spec =
     tie.close
-    (tie.spec (λ c κs. (omega arith, fits-down mostArmourRatio (omega arith) (omega arith) tt))
+    (tie.spec (λ c κs. quotient-down mostArmourRatio (omega arith) (omega arith) tt)
     (λ c κs. square-fits down-bounded mostArmourRatio mostArmourRatioSquared (c .mul-div-down .ensures) (omega arith) (omega arith) tt tt)
     (λ c. omega (arith, y2-most c))
-    (λ c κs. (omega arith, fits-up mostResistance (omega arith) (omega (arith, c .before .before .pre .0)) tt)) returns)
+    (λ c κs. quotient-up mostResistance (omega arith) (omega (arith, c .before .before .pre .ra-most)) tt) returns)

@@ -6,23 +6,23 @@ use lib.Dec.{lit<}
 use Rattle.formulas.specs.Dielectric.{dielectricResistance, dielectricRise}
 use Rattle.formulas.specs.Laws.Ranges.{dielectricResistance-most}
 use Rattle.formulas.specs.Laws.Bounds.{mostDielectricRise}
-use Rattle.stages.proofs.Quotients.{fits-up}
+use Rattle.stages.proofs.Quotients.{quotient-up}
 use Prim.Native.Nat.{_+_, _*_, _≤_}
 use Rattle.stages.proofs.dielectric.dielectric_rise.Statement.{statement}
 use Rattle.stages.proofs.dielectric.dielectric_rise.Tie as tie
 
 outer-most : (c : tie.Start) → 2 * c .args .n * (c .args .t2 + c .args .t3 + c .args .t4) ≤ 240000000
 outer-most c =
-    let n≤ : 2 * c .args .n ≤ 6 = omega (arith, c .pre .0) in
-    let t≤ : c .args .t2 + c .args .t3 + c .args .t4 ≤ 40000000 = omega (arith, c .pre) in
+    let n≤ : 2 * c .args .n ≤ 6 = omega (arith, c .pre .n-most) in
+    let t≤ : c .args .t2 + c .args .t3 + c .args .t4 ≤ 40000000 = omega (arith, c .pre .thermal) in
     mul-le-mul n≤ t≤
 
 mul-div-up-requires : tie.Need-mul-div-up-requires
 unfolding dielectricResistance
 mul-div-up-requires c κs =
-    let pre = c .pre in
-    let t≤ = dielectricResistance-most (pre .0) (pre .2) (pre .3) (pre .4) (pre .5) in
-    (lit< tt, fits-up mostDielectricRise (lit< tt) (mul-le-mul (pre .1) t≤) tt)
+    let t = c .pre .thermal in
+    let t≤ = dielectricResistance-most (c .pre .n-most) (t .t1-most) (t .t2-most) (t .t3-most) (t .t4-most) in
+    quotient-up mostDielectricRise (lit< tt) (mul-le-mul (c .pre .wd-most) t≤) tt
 
 pub dielectric-rise-spec : {M : Type 1} → statement M
 unfolding dielectricRise dielectricResistance

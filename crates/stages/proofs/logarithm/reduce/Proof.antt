@@ -45,7 +45,7 @@ unfolding doubled
 returns c =
     let start = c .before .before in
     let passed = c .before .loop .inv in
-    let count = count-is (start .pre .0) (start .pre .1) passed (c .loop-test .left) in
+    let count = count-is (start .pre .b>0) (start .pre .b-most) passed (c .loop-test .left) in
     let twice : _ ≡ doubled (start .args .a) (start .args .b) = passed .times ∙ ap (λ k. 2 ^ k * start .args .b) count in
     record { octaves-are = count; num-is = ap (λ d. start .args .a - d) twice; den-is = ap (λ d. start .args .a + d) twice }
 

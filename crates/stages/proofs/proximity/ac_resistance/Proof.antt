@@ -15,7 +15,7 @@ use Rattle.stages.proofs.proximity.ac_resistance.Tie as tie
 mul-div-up-trillion-requires : tie.Need-mul-div-up-trillion-requires
 mul-div-up-trillion-requires c κs =
     let sum≤ : trillion + c .args .ys + c .args .yp ≤ 1934900000000 = omega arith in
-    fits-up mostAcResistance (lit< tt) (omega (arith, mul-le-mul (c .pre .0) sum≤)) tt
+    fits-up mostAcResistance (lit< tt) (omega (arith, mul-le-mul (c .pre .rc-most) sum≤)) tt
 
 pub ac-resistance-spec : {M : Type 1} → statement M
 unfolding acResistance tera

@@ -20,15 +20,15 @@ sum-most c =
     let pre = c .before .before .pre in
     omega (
       arith,
-      proximityG-most (pre .0) (pre .1),
-      proximityH-most (pre .1),
+      proximityG-most (pre .u-most) (pre .factor-most),
+      proximityH-most (pre .factor-most),
       c .before .proximity-g .ensures,
       c .proximity-h .ensures,
     )
 
 mul-div-up-trillion-requires : tie.Need-mul-div-up-trillion-requires
 mul-div-up-trillion-requires c κs =
-    fits-up mostProximityFactor (lit< tt) (omega (arith, mul-le-mul (c .before .before .pre .0) (sum-most c))) tt
+    fits-up mostProximityFactor (lit< tt) (omega (arith, mul-le-mul (c .before .before .pre .u-most) (sum-most c))) tt
 
 returns : tie.Need-returns
 unfolding proximityFactor tera

@@ -5,7 +5,7 @@ use native.Mathlib.Omega.{arith}
 use Rattle.exact.specs.Root.{root}
 use Rattle.exact.specs.Laws.Root.{root-is, root-only}
 use Rattle.formulas.specs.Rating.{rating}
-use Rattle.stages.proofs.Quotients.{fits-down}
+use Rattle.stages.proofs.Quotients.{quotient-down}
 use Rattle.stages.proofs.rating.rating.Statement.{statement}
 use Rattle.stages.proofs.rating.rating.Tie as tie
 
@@ -18,5 +18,5 @@ returns c =
 pub rating-spec : {M : Type 1} → statement M
 rating-spec =
     tie.close
-    (tie.spec (λ c κs. (omega arith, fits-down 80000000000000000 (omega arith) (omega arith) tt))
+    (tie.spec (λ c κs. quotient-down 80000000000000000 (omega arith) (omega arith) tt)
     (λ c κs. search needs) returns)

@@ -4,23 +4,24 @@ use mathlib.Core.Path.{ap₂}
 use native.Mathlib.Omega.{arith}
 use native.Mathlib.Nat.{mul-le-mul}
 use Rattle.formulas.specs.Rating.{unitRise}
+use Rattle.formulas.specs.Laws.Bounds.{mostPartLoss}
 use Prim.Native.Nat.{_+_, _*_, _≤_}
 use Rattle.stages.proofs.rating.unit_rise.Statement.{statement}
 use Rattle.stages.proofs.rating.unit_rise.Tie as tie
 
-inner-most : (c : tie.Start) → c .args .n * (c .args .r + c .args .s) ≤ 6000000000000000
+inner-most : (c : tie.Start) → c .args .n * (c .args .r + c .args .s) ≤ mostPartLoss
 inner-most c =
     let losses≤ : c .args .r + c .args .s ≤ 2000000000000000 = omega (arith, c .pre) in
-    mul-le-mul (c .pre .0 .0) losses≤
+    mul-le-mul (c .pre .n-most) losses≤
 
-outer-most : (c : tie.Start) → c .args .n * (c .args .r + c .args .s + c .args .w) ≤ 6000000000000000
+outer-most : (c : tie.Start) → c .args .n * (c .args .r + c .args .s + c .args .w) ≤ mostPartLoss
 outer-most c =
     let losses≤ : c .args .r + c .args .s + c .args .w ≤ 2000000000000000 = omega (arith, c .pre) in
-    mul-le-mul (c .pre .0 .0) losses≤
+    mul-le-mul (c .pre .n-most) losses≤
 
 returns : tie.Need-returns
 unfolding unitRise
-returns c = ap₂ _+_ (ap₂ _+_ (c .before .before .rise .ensures .0) (c .before .rise2 .ensures .0)) (c .rise3 .ensures .0)
+returns c = ap₂ _+_ (ap₂ _+_ (c .before .before .rise .ensures .rise-is) (c .before .rise2 .ensures .rise-is)) (c .rise3 .ensures .rise-is)
 
 pub unit-rise-spec : {M : Type 1} → statement M
 unit-rise-spec =

@@ -15,5 +15,5 @@ unfolding resistance
 resistance-spec =
     tie.close
     (tie.spec (λ c κs. search needs)
-    (λ c. omega (arith, mul-le-mul (c .before .pre .0) (c .temperature-factor .ensures .1)))
-    (λ c. ap (λ z. c .before .args .field * natAbs z) (c .temperature-factor .ensures .0)))
+    (λ c. omega (arith, mul-le-mul (c .before .pre .field-most) (c .temperature-factor .ensures .factor-most)))
+    (λ c. ap (λ z. c .before .args .field * natAbs z) (c .temperature-factor .ensures .factor-is)))

@@ -6,13 +6,15 @@ use native.Mathlib.Nat.{mul-le-mul, le-trans}
 use native.Mathlib.Omega.{arith}
 use lib.Dec.{T}
 use lib.IntN.{ℤ, pos, negℤ, natAbs, _+ℤ_, _-ℤ_, _*ℤ_}
-use lib.Signed.{_≤ℤ_, mag, nonNeg}
+use lib.Signed.{mag, nonNeg}
 use borrow.Author.Needs.{needs}
 use mir.Syntax.{w32, w64}
 use mir.Val.{toZ, Fits, SFits}
 use mir.ValLaws.{toZ-pos, toZ-fits}
 use Rattle.formulas.specs.Resistance.{temperatureFactor}
 use Rattle.formulas.specs.Laws.Temperature.{FactorRange, temperatureFactor-range}
+use Rattle.formulas.specs.Laws.Bounds.{mostCoefficient, mostTemperatureFactor}
+use Rattle.stages.specs.Laws.Ranges.{FactorRanges}
 use Rattle.stages.proofs.Signed.{Is, read, fits-as, read-as, mag-sum, mag-times}
 use Rattle.stages.proofs.resistance.temperature_factor.Statement.{statement}
 use Rattle.stages.proofs.resistance.temperature_factor.Tie as tie
@@ -23,13 +25,11 @@ factor-fits range = fits-as (record { same = range .sign; fits = record { sfits 
 unsigned : {z : ℤ} → FactorRange z → T (nonNeg z) × Fits w64 (natAbs z)
 unsigned range = (subst⁻¹ (λ z. T (nonNeg z)) (range .sign) tt, record { fits = omega arith })
 
--- a coefficient α and a temperature θ within the limits, where `signed` answers r
+-- a coefficient α and a temperature θ in range, where `signed` answers r
 record Within (α : ℕ) (θ r : ℤ) : Type 0 where
   same : r ≡ θ
   word : SFits w32 θ
-  small : α ≤ 450
-  least : negℤ (pos 4000) ≤ℤ θ
-  most : θ ≤ℤ pos 25000
+  ranges : FactorRanges α θ
 
 module _ {α : ℕ} {θ r : ℤ} (w : Within α θ r) where
   temperature : Is r θ
@@ -45,8 +45,8 @@ module _ {α : ℕ} {θ r : ℤ} (w : Within α θ r) where
         fits = record { sfits = omega (arith, difference-most) };
       }
 
-  product-most : mag (pos α *ℤ (θ -ℤ pos 2000)) ≤ 450 * 2147485648
-  product-most = le-trans (mag-times α (θ -ℤ pos 2000)) (mul-le-mul (w .small) (suc-le-suc difference-most))
+  product-most : mag (pos α *ℤ (θ -ℤ pos 2000)) ≤ mostCoefficient * 2147485648
+  product-most = le-trans (mag-times α (θ -ℤ pos 2000)) (mul-le-mul (w .ranges .α-most) (suc-le-suc difference-most))
 
   product : Is (toZ w64 α *ℤ read (read r -ℤ pos 2000)) (pos α *ℤ (θ -ℤ pos 2000))
   product =
@@ -56,7 +56,7 @@ module _ {α : ℕ} {θ r : ℤ} (w : Within α θ r) where
       }
 
   range : FactorRange (temperatureFactor α θ)
-  range = temperatureFactor-range α θ (w .small) (w .least) (w .most)
+  range = temperatureFactor-range α θ (w .ranges .α-most) (w .ranges .θ-least) (w .ranges .θ-most)
 
   factor : Is (pos 10000000 +ℤ read (toZ w64 α *ℤ read (read r -ℤ pos 2000))) (temperatureFactor α θ)
   unfolding temperatureFactor
@@ -67,9 +67,7 @@ within c =
     record {
       same = c .signed .ensures;
       word = toZ-fits w32 (c .before .args .theta) (record { fits = omega arith });
-      small = c .before .pre .0;
-      least = c .before .pre .1;
-      most = c .before .pre .2;
+      ranges = c .before .pre;
     }
 
 sub-result : tie.Need-sub-result
@@ -89,7 +87,10 @@ returns : tie.Need-returns
 returns c =
     let answer = read-as (factor (within c)) in
     let limits = range (within c) in
-    (ap (λ z. pos (natAbs z)) answer ∙ sym (limits .sign), subst⁻¹ (λ z. natAbs z ≤ 20350000) answer (limits .most))
+    record {
+      factor-is = ap (λ z. pos (natAbs z)) answer ∙ sym (limits .sign);
+      factor-most = subst⁻¹ (λ z. natAbs z ≤ mostTemperatureFactor) answer (limits .most);
+    }
 
 pub temperature-factor-spec : {M : Type 1} → statement M
 temperature-factor-spec =

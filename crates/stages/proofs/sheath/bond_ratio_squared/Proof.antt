@@ -8,7 +8,7 @@ use Rattle.formulas.specs.Constants.{tera}
 use Rattle.formulas.specs.Sheath.{bondRatio, bondRatioSquared}
 use Rattle.formulas.specs.Laws.LogRange.{up-bounded}
 use Rattle.formulas.specs.Laws.Bounds.{mostBondRatio, mostBondRatioSquared}
-use Rattle.stages.proofs.Quotients.{fits-up, square-fits}
+use Rattle.stages.proofs.Quotients.{quotient-up, square-fits}
 use Rattle.stages.proofs.sheath.bond_ratio_squared.Statement.{statement}
 use Rattle.stages.proofs.sheath.bond_ratio_squared.Tie as tie
 
@@ -16,6 +16,6 @@ pub bond-ratio-squared-spec : {M : Type 1} → statement M
 unfolding bondRatioSquared bondRatio tera
 bond-ratio-squared-spec =
     tie.close
-    (tie.spec (λ c κs. (omega arith, fits-up mostBondRatio (omega arith) (omega arith) tt))
+    (tie.spec (λ c κs. quotient-up mostBondRatio (omega arith) (omega arith) tt)
     (λ c κs. square-fits up-bounded mostBondRatio mostBondRatioSquared (c .mul-div-up .ensures) (omega arith) (omega arith) tt tt)
     (λ c. c .mul-div-up-trillion .ensures ∙ ap (λ v. up (v * v) trillion) (c .before .mul-div-up .ensures)))

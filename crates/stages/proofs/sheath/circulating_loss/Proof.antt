@@ -9,21 +9,21 @@ use Rattle.formulas.specs.Constants.{tera}
 use Rattle.formulas.specs.Sheath.{circulatingLoss}
 use Rattle.formulas.specs.Laws.Ranges.{bondRatio-most, bondRatioSquared-most}
 use Rattle.formulas.specs.Laws.Bounds.{mostResistance, mostBondRatioSquared}
-use Rattle.stages.proofs.Quotients.{fits-up}
+use Rattle.stages.proofs.Quotients.{quotient-up}
 use Prim.Native.Nat.{_+_, _*_, _≤_}
 use Rattle.stages.proofs.sheath.circulating_loss.Statement.{statement}
 use Rattle.stages.proofs.sheath.circulating_loss.Tie as tie
 
 v2-most : (c : tie.After-bond-ratio-squared) → c .bond-ratio-squared .result ≤ mostBondRatioSquared
 v2-most c =
-    omega
-    (arith, bondRatioSquared-most (bondRatio-most (c .before .pre .0) (c .before .pre .1)), c .bond-ratio-squared .ensures)
+    let pre = c .before .pre .ratio in
+    omega (arith, bondRatioSquared-most (bondRatio-most (pre .x-most) (pre .rs-least)), c .bond-ratio-squared .ensures)
 
 mul-div-up-requires : tie.Need-mul-div-up-requires
 mul-div-up-requires c κs =
     let rs = c .before .args .rs in
     let v2 = c .bond-ratio-squared .result in
-    (omega arith, fits-up mostResistance (omega arith) (omega (arith, mul-le-mul-right v2 (c .before .pre .2))) tt)
+    quotient-up mostResistance (omega arith) (omega (arith, mul-le-mul-right v2 (c .before .pre .rs-most))) tt
 
 returns : tie.Need-returns
 unfolding circulatingLoss tera

@@ -10,7 +10,7 @@ use Rattle.formulas.specs.Sheath.{eddyRatio, eddyRatioSquared, eddyFactor}
 use Rattle.formulas.specs.Laws.LogRange.{up-bounded}
 use Rattle.formulas.specs.Laws.Ranges.{eddyRatio-most, eddyRatioSquared-most}
 use Rattle.formulas.specs.Laws.Bounds.{mostEddyRatio, mostEddyFactor}
-use Rattle.stages.proofs.Quotients.{fits-up, square-fits}
+use Rattle.stages.proofs.Quotients.{quotient-up, square-fits}
 use Rattle.stages.proofs.sheath.eddy_factor.Statement.{statement}
 use Rattle.stages.proofs.sheath.eddy_factor.Tie as tie
 
@@ -23,14 +23,14 @@ m2-is c = c .mul-div-up-trillion .ensures ∙ ap (λ m. up (m * m) trillion) (c 
 m2-most : (c : tie.After-mul-div-up-trillion) → c .mul-div-up-trillion .result ≤ mostEddyFactor
 m2-most c =
     let pre = c .before .before .pre in
-    omega (arith, m2-is c, eddyRatioSquared-most (eddyRatio-most (c .before .before .args .b) (pre .0) (pre .2)))
+    omega (arith, m2-is c, eddyRatioSquared-most (eddyRatio-most (c .before .before .args .b) (pre .rs>0) (pre .b-most)))
 
 pub eddy-factor-spec : {M : Type 1} → statement M
 unfolding eddyFactor tera
 eddy-factor-spec =
     tie.close
-    (tie.spec (λ c. search needs) (λ c κs. (omega arith, fits-up mostEddyRatio (omega arith) (omega arith) tt))
+    (tie.spec (λ c. search needs) (λ c κs. quotient-up mostEddyRatio (omega arith) (omega arith) tt)
     (λ c κs. square-fits up-bounded mostEddyRatio mostEddyFactor (c .mul-div-up .ensures) (omega arith) (omega arith) tt tt)
     (λ c. omega (arith, m2-most c))
-    (λ c κs. (omega arith, fits-up mostEddyFactor (omega arith) (omega (arith, m2-most c)) tt))
+    (λ c κs. quotient-up mostEddyFactor (omega arith) (omega (arith, m2-most c)) tt)
     (λ c. c .mul-div-up2 .ensures ∙ ap (λ m2. up (m2 * trillion) (trillion + m2)) (m2-is (c .before))))

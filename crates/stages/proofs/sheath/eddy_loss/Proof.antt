@@ -18,20 +18,20 @@ use Rattle.stages.proofs.sheath.eddy_loss.Tie as tie
 
 product-most : (c : tie.After-eddy-factor) → c .before .args .rs * c .eddy-factor .result ≤ mostEddyInner * trillion
 product-most c =
-    let pre = c .before .pre in
+    let pre = c .before .pre .factor in
     let e≤ : c .eddy-factor .result ≤ mostEddyFactor =
     omega (
       arith,
-      eddyFactor-most (c .before .args .b) (pre .1) (pre .3),
+      eddyFactor-most (c .before .args .b) (pre .rs>0) (pre .b-most),
       c .eddy-factor .ensures,
     )
     in
-    le-trans (mul-le-mul (pre .2) e≤) (lit≤ tt)
+    le-trans (mul-le-mul (pre .rs-most) e≤) (lit≤ tt)
 
 cores-most :
     (c : tie.After-mul-div-up-trillion) → 3 * c .before .before .args .j * c .mul-div-up-trillion .result ≤ 6 * mostEddyInner
 cores-most c =
-    let j≤ : 3 * c .before .before .args .j ≤ 6 = omega (arith, c .before .before .pre .0) in
+    let j≤ : 3 * c .before .before .args .j ≤ 6 = omega (arith, c .before .before .pre .j-most) in
     let inner≤ : c .mul-div-up-trillion .result ≤ mostEddyInner =
     omega
     (arith, up-least _ mostEddyInner {b = trillion} (lit< tt) (product-most (c .before)), c .mul-div-up-trillion .ensures)
@@ -40,8 +40,10 @@ cores-most c =
 
 mul-div-up-trillion-requires-2 : tie.Need-mul-div-up-trillion-requires-2
 mul-div-up-trillion-requires-2 c κs =
-    let pre = c .before .before .before .pre in
-    let place≤ : c .eddy-spacing .result ≤ mostEddySpacing = omega (arith, eddySpacing-most (pre .4) (pre .6), c .eddy-spacing .ensures) in
+    let pre = c .before .before .before .pre .spacing in
+    let place≤ : c .eddy-spacing .result ≤ mostEddySpacing =
+    omega (arith, eddySpacing-most (pre .s>0) (pre .apart), c .eddy-spacing .ensures)
+    in
     fits-up 6105000000000 (lit< tt) (le-trans (mul-le-mul (cores-most (c .before)) place≤) (lit≤ tt)) tt
 
 returns : tie.Need-returns

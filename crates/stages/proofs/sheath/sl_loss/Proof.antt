@@ -14,7 +14,7 @@ use Rattle.stages.proofs.sheath.sl_loss.Tie as tie
 s-most : (c : tie.After-circulating-loss) → c .circulating-loss .result ≤ mostResistance
 s-most c =
     omega
-    (arith, circulatingLoss-most (c .before .args .x) (c .before .args .rs), c .circulating-loss .ensures, c .before .pre .2)
+    (arith, circulatingLoss-most (c .before .args .x) (c .before .args .rs), c .circulating-loss .ensures, c .before .pre .rs-most)
 
 returns : tie.Need-returns
 unfolding slLoss threeHalves

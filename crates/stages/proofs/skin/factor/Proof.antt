@@ -10,7 +10,7 @@ use Rattle.formulas.specs.Constants.{tera}
 use Rattle.formulas.specs.Skin.{skinRatioSquared, factor}
 use Rattle.formulas.specs.Laws.Ranges.{skinRatioSquared-most}
 use Rattle.formulas.specs.Laws.Bounds.{mostSkinRatioSquared}
-use Rattle.stages.proofs.Quotients.{fits-up}
+use Rattle.stages.proofs.Quotients.{fits-up, quotient-up}
 use Prim.Native.Nat.{_+_, _*_, _≤_}
 use Rattle.stages.proofs.skin.factor.Statement.{statement}
 use Rattle.stages.proofs.skin.factor.Tie as tie
@@ -28,5 +28,5 @@ factor-spec =
     tie.close
     (tie.spec (λ c κs. fits-up mostSkinRatioSquared (lit< tt) (omega (arith, mul-le-mul (c .pre) (c .pre))) tt)
     (λ c. omega (arith, w-most c)) (λ c. search needs) (λ c. omega (arith, w-most c)) (λ c. omega (arith, w-most c))
-    (λ c κs. (omega arith, fits-up mostSkinRatioSquared (omega arith) (omega (arith, w-most c)) tt))
+    (λ c κs. quotient-up mostSkinRatioSquared (omega arith) (omega (arith, w-most c)) tt)
     (λ c. c .mul-div-up .ensures ∙ ap (λ w. up (5 * w * trillion) (960 * trillion + 4 * w)) (w-is (c .before))))

@@ -8,17 +8,18 @@ use Rattle.formulas.specs.Constants.{tera}
 use Rattle.formulas.specs.Skin.{skinRatio}
 use Rattle.formulas.specs.Laws.Ranges.{skinReactance-most}
 use Rattle.formulas.specs.Laws.Bounds.{mostSkinReactance}
-use Rattle.stages.proofs.Quotients.{fits-up}
+use Rattle.stages.proofs.Quotients.{quotient-up}
 use Prim.Native.Nat.{_*_, _≤_}
 use Rattle.stages.proofs.skin.skin_ratio.Statement.{statement}
 use Rattle.stages.proofs.skin.skin_ratio.Tie as tie
 
 mul-div-up-requires : tie.Need-mul-div-up-requires
 mul-div-up-requires c κs =
+    let pre = c .before .pre .reactance in
     let a≤ : c .skin-reactance .result ≤ mostSkinReactance =
-    omega (arith, skinReactance-most (c .before .pre .0) (c .before .pre .1), c .skin-reactance .ensures)
+    omega (arith, skinReactance-most (pre .f-most) (pre .k-most), c .skin-reactance .ensures)
     in
-    (omega arith, fits-up 45000000000000 (omega arith) (omega arith) tt)
+    quotient-up 45000000000000 (omega arith) (omega arith) tt
 
 returns : tie.Need-returns
 unfolding skinRatio tera

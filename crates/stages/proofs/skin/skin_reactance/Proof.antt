@@ -14,6 +14,6 @@ pub skin-reactance-spec : {M : Type 1} → statement M
 unfolding skinReactance piHigh
 skin-reactance-spec =
     tie.close
-    (tie.spec (λ c. search needs) (λ c. omega (arith, mul-le-mul (c .pre .0) (c .pre .1)))
-    (λ c. omega (arith, mul-le-mul (c .pre .0) (c .pre .1)))
+    (tie.spec (λ c. search needs) (λ c. omega (arith, mul-le-mul (c .pre .f-most) (c .pre .k-most)))
+    (λ c. omega (arith, mul-le-mul (c .pre .f-most) (c .pre .k-most)))
     (λ c. sym (up-code (c .args .f * 31415926536 * c .args .k) 125000)))

@@ -13,5 +13,5 @@ pub sheath-reactance-spec : {M : Type 1} → statement M
 unfolding sheathReactance tera
 sheath-reactance-spec =
     tie.close
-    (tie.spec (λ c κs. fits-up mostSheathReactance (lit< tt) (omega (arith, mul-le-mul (c .pre .0) (c .pre .1))) tt)
+    (tie.spec (λ c κs. fits-up mostSheathReactance (lit< tt) (omega (arith, mul-le-mul (c .pre .b-most) (c .pre .l-most))) tt)
     (λ c. c .mul-div-up-trillion .ensures))

@@ -13,5 +13,5 @@ pub sheath-reactance-low-spec : {M : Type 1} → statement M
 unfolding sheathReactanceLow tera
 sheath-reactance-low-spec =
     tie.close
-    (tie.spec (λ c κs. fits-down mostSheathReactance (lit< tt) (omega (arith, mul-le-mul (c .pre .0) (c .pre .1))) tt)
+    (tie.spec (λ c κs. fits-down mostSheathReactance (lit< tt) (omega (arith, mul-le-mul (c .pre .b-most) (c .pre .l-most))) tt)
     (λ c. c .mul-div-down-trillion .ensures))

@@ -19,5 +19,7 @@ pub spacing-log-high-spec : {M : Type 1} → statement M
 spacing-log-high-spec =
     tie.close
     (tie.spec (λ c. search needs) (λ c κs. search needs)
-    (λ c κs. let pre = c .before .pre in omega (arith, c .log-high .ensures, logHigh-most _ _ (pre .0) (pre .1) (pre .3)))
+    (λ c κs.
+    let pre = c .before .pre in
+    omega (arith, c .log-high .ensures, logHigh-most _ _ (pre .octaves .b>0) (pre .octaves .b-most) (pre .ratio-below)))
     returns)

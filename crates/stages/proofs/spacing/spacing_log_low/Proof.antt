@@ -19,5 +19,7 @@ pub spacing-log-low-spec : {M : Type 1} → statement M
 spacing-log-low-spec =
     tie.close
     (tie.spec (λ c. search needs) (λ c κs. search needs)
-    (λ c κs. let pre = c .before .pre in omega (arith, c .log-low .ensures, logLow-most _ _ (pre .0) (pre .1) (pre .3)))
+    (λ c κs.
+    let pre = c .before .pre in
+    omega (arith, c .log-low .ensures, logLow-most _ _ (pre .octaves .b>0) (pre .octaves .b-most) (pre .ratio-below)))
     returns)

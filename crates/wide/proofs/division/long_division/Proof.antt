@@ -69,7 +69,7 @@ long-division-spec =
     tie.close
     (tie.spec (λ c κs. search needs) (λ c. search needs) (λ c. search needs) (λ c. search needs) (λ c. search needs)
     (λ c. search needs) (λ c. search needs) (λ c. search needs) (λ c. omega (arith, u-below c)) (λ c. search needs)
-    (λ c. search needs) (λ c κs. let below = u-below c in (omega arith, omega arith, omega arith))
+    (λ c. search needs) (λ c κs. omega (arith, u-below c))
     (λ c κs. search needs) (λ c. omega (arith, quotient-fits (c .before)))
     (λ c. record { fits = quotient-fits (c .before .before) }) (λ c. search needs) (λ c. search needs)
     (λ c. answer (c .before .before .before)))

@@ -12,7 +12,7 @@ use Rattle.wide.proofs.ratio.mul_div.Tie as tie
 divide-requires : tie.Need-divide-requires
 unfolding value
 divide-requires c κs =
-    high-below (c .product .result .hi) (c .product .result .lo) (2 ^ 64) (c .before .pre .0) (c .product .ensures) (c .before .pre .1)
+    high-below (c .product .result .hi) (c .product .result .lo) (2 ^ 64) (c .before .pre .c>0) (c .product .ensures) (c .before .pre .fits)
 
 returns : tie.Need-returns
 unfolding value

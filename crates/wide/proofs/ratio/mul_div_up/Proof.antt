@@ -11,6 +11,6 @@ use Rattle.wide.proofs.ratio.mul_div_up.Tie as tie
 pub mul-div-up-spec : {M : Type 1} → statement M
 mul-div-up-spec =
     tie.close
-    (tie.spec (λ c κs. (c .pre .0, lt-of-le-of-lt (down-le-up _ (c .pre .0)) (c .pre .1)))
-    (λ c κs. subst (λ (n : ℕ). n < 2 ^ 64) (sym (split-up (c .mul-div .ensures))) (c .before .pre .1))
+    (tie.spec (λ c κs. record { c>0 = c .pre .c>0; fits = lt-of-le-of-lt (down-le-up _ (c .pre .c>0)) (c .pre .fits) })
+    (λ c κs. subst (λ (n : ℕ). n < 2 ^ 64) (sym (split-up (c .mul-div .ensures))) (c .before .pre .fits))
     (λ c. c .rounded-up .ensures ∙ split-up (c .before .mul-div .ensures)))

@@ -17,4 +17,4 @@ pub stepped-spec : {M : Type 1} → statement M
 stepped-spec =
     tie.close
     (tie.spec (λ c. search needs) add-r (λ c. search needs)
-    (λ c. (omega arith, step-above (c .before .args .x) (c .before .args .g) (omega arith))))
+    (λ c. record { r-below = omega arith; above = step-above (c .before .args .x) (c .before .args .g) (omega arith) }))

@@ -1,0 +1,2 @@
+-- What the functions of this crate ask of their arguments. Assumes nothing.
+pub mod Ranges

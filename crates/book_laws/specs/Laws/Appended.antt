@@ -31,7 +31,7 @@ use Rattle.book_laws.specs.Laws.ReadBack.{built-kept}
 use Rattle.book_laws.specs.Laws.Cases.{casesAt, cases-are, casesAt-length, cases-as-readIn}
 use Rattle.book_laws.specs.Laws.Rebuild.{cases-fit, cases-stand, read-cases}
 
--- what holds of every byte of the buffer, and of the buffer with the record and the trailer in it, holds after append, refused or not
+-- what holds of the buffer, and of the buffer with the record and the trailer in it, holds of what append leaves, refused or not
 append-each :
     (P : List ℕ → Type 0) (l : Layout) (b : List ℕ) (used : ℕ) (x : List ℕ) → P b →
     P (splice b (used - trailerLength l) (recordBytes l x ++ trailerBytes l (describeIn l b used .count + 1))) →

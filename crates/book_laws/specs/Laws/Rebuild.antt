@@ -97,7 +97,7 @@ module _ {l : Layout} (lawful : Lawful l) (b : List ℕ) (used : ℕ) (bytes : b
       ∙ trailer
       ∙ ap (λ (at : ℕ). take (trailerLength l) (drop at b)) place)
 
-  pub used-is : usedFor l note (length cases) ≡ used
+  used-is : usedFor l note (length cases) ≡ used
   used-is = ap (usedFor l note) (casesAt-length l b note count) ∙ described l b used (fine .trailer-right) .places
 
   pub cases-fit : (c : List ℕ) → used ≤ length c → FitsIn l c note (length cases)

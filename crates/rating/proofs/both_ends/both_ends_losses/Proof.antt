@@ -1,5 +1,5 @@
 -- `both_ends_losses` is the definition.
-use mathlib.Core.Path.{refl, _∙_}
+use mathlib.Core.Path.{refl, sym, ap, _∙_}
 use native.Mathlib.Omega.{arith}
 use Rattle.formulas.specs.Sheath.{circulatingLoss}
 use Rattle.rating.specs.Arrangement.{alternating}
@@ -11,29 +11,27 @@ use Rattle.rating.proofs.both_ends.both_ends_losses.Statement.{statemen
 use Rattle.rating.proofs.both_ends.both_ends_losses.Tie as tie
 
 sheath-reactance-of-requires : tie.Need-sheath-reactance-of-requires
-sheath-reactance-of-requires c κs = (c .pre .0 .sound, both-ends-apart (c .pre .0), c .pre .1)
+sheath-reactance-of-requires c κs =
+    let fit = c .pre .fit in
+    (fit .sound, both-ends-apart fit, c .pre .b-is)
 
 circulating-loss-requires : tie.Need-circulating-loss-requires
 circulating-loss-requires c κs =
-    let fit : Fit bothEnds (c .before .args .x) = c .before .pre .0 in
+    let fit : Fit bothEnds (c .before .args .x) = c .before .pre .fit in
     let rs = Rs-range (fit .sound) in (
       omega (arith, c .sheath-reactance-of .ensures, X-range (fit .sound) (both-ends-apart fit)),
-      omega (arith, c .before .pre .2, rs),
-      omega (arith, c .before .pre .2, rs),
+      omega (arith, c .before .pre .rs-is, rs),
+      omega (arith, c .before .pre .rs-is, rs),
     )
 
 returns : tie.Need-returns
-unfolding bothEnds alternating
+unfolding bothEnds
 returns c =
     let x = c .before .sheath-reactance-of .ensures in
-    let rs = c .before .before .pre .2 in
-    record {
-      n-is = refl;
-      ra-is = refl;
-      x-is = x;
-      s-is = c .circulating-loss .ensures ∙ (λ i. circulatingLoss (x i) (rs i));
-      w-is = refl;
-    }
+    let start = c .before .before in
+    let rs = start .pre .rs-is in
+    let s = sym (c .circulating-loss .ensures ∙ (λ i. circulatingLoss (x i) (rs i))) in
+    record { numbers-are = ap (λ s. alternating 1 s 0 (start .args .x)) s; ra-is = refl; x-is = x }
 
 pub both-ends-losses-spec : {M : Type 1} → statement M
 both-ends-losses-spec = tie.close (tie.spec sheath-reactance-of-requires circulating-loss-requires returns)

@@ -1,6 +1,6 @@
 -- `sl_type_losses` is the definition.
 use borrow.Author.Needs.{needs}
-use mathlib.Core.Path.{refl, _∙_}
+use mathlib.Core.Path.{sym, _∙_}
 use native.Mathlib.Omega.{arith}
 use Rattle.formulas.specs.Sheath.{slLoss}
 use Rattle.rating.specs.Arrangement.{alternating}
@@ -14,30 +14,31 @@ use Rattle.rating.proofs.sl_type.sl_type_losses.Tie as tie
 sheath-reactance-of-requires : tie.Need-sheath-reactance-of-requires
 sheath-reactance-of-requires c κs =
     let pre = c .before .pre in
-    (pre .0 .sound, armoured (pre .0) .apart, pre .1)
+    (pre .fit .sound, armoured (pre .fit) .apart, pre .b-is)
 
 sl-loss-requires : tie.Need-sl-loss-requires
 sl-loss-requires c κs =
     let start = c .before .before in
-    let fit : Fit slType (start .args .x) = start .pre .0 in
+    let fit : Fit slType (start .args .x) = start .pre .fit in
     let rs = Rs-range (fit .sound) in (
       omega (arith, c .sheath-reactance-of .ensures, X-range (fit .sound) (armoured fit .apart)),
-      omega (arith, start .pre .2, rs),
-      omega (arith, start .pre .2, rs),
+      omega (arith, start .pre .rs-is, rs),
+      omega (arith, start .pre .rs-is, rs),
     )
 
 returns : tie.Need-returns
-unfolding slType alternating
+unfolding slType
 returns c =
     let reactance = c .before .before in
+    let start = reactance .before .before in
     let x = reactance .sheath-reactance-of .ensures in
-    let rs = reactance .before .before .pre .2 in
+    let rs = start .pre .rs-is in
+    let s = sym (c .before .sl-loss .ensures ∙ (λ i. slLoss (x i) (rs i))) in
+    let w = sym (c .armour-loss .ensures) in
     record {
-      n-is = refl;
+      numbers-are = λ i. alternating 3 (s i) (w i) (start .args .x);
       ra-is = reactance .before .armour-resistance .ensures;
       x-is = x;
-      s-is = c .before .sl-loss .ensures ∙ (λ i. slLoss (x i) (rs i));
-      w-is = c .armour-loss .ensures;
     }
 
 pub sl-type-losses-spec : {M : Type 1} → statement M

@@ -1,29 +1,29 @@
 -- `unit_rise_of` is the definition: every number is in the range that its arrangement keeps.
 use borrow.Author.Needs.{needs}
-use mathlib.Core.Path.{_∙_}
+use mathlib.Core.Path.{sym, ap, subst, _∙_}
+use Prim.Native.Nat.{ℕ}
 use native.Mathlib.Omega.{arith}
 use Rattle.formulas.specs.Rating.{unitRise}
-use Rattle.rating.specs.Arrangements.{own}
+use Rattle.fields.specs.Fields as Field
+use Rattle.rating.specs.Arrangement.{Numbers, alternating}
 use Rattle.rating.specs.Stage10.{E}
-use Rattle.rating.specs.Laws.Fit.{Fit}
+use Rattle.rating.specs.Laws.Arrangement.{InRange}
 use Rattle.rating.specs.Laws.Stage10.{numbers-in-range}
-use Rattle.rating.proofs.rate.unit_rise_of.Statement.{statement}
-use Rattle.rating.proofs.rate.unit_rise_of.Tie as tie
+use Rattle.rating.proofs.load.unit_rise_of.Statement.{statement}
+use Rattle.rating.proofs.load.unit_rise_of.Tie as tie
 
 unit-rise-requires : tie.Need-unit-rise-requires
+unfolding alternating
 unit-rise-requires c κs =
     let second = c .before .before in
     let start = second .before .before in
-    let fit : Fit (own (start .args .t1)) (start .args .t1) = start .pre .0 in
-    let fine = fit .sound in
-    let ν = numbers-in-range fit in
-    let is = start .pre .1 in (
-      (
-        omega (arith, is .0, ν .n),
-        omega (arith, is .1, ν .R),
-        omega (arith, is .2, ν .S),
-        omega (arith, is .3, ν .W),
-      ),
+    let passes = start .pre .passes in
+    let fine = passes .fit .sound in
+    let l = start .args .l in
+    let ν : InRange (alternating (l .n) (l .s) (l .w) (start .args .t1)) =
+    subst InRange (start .pre .loses .numbers-are) (numbers-in-range (passes .fit))
+    in (
+      (omega (arith, ν .n), omega (arith, passes .r-is, ν .R), ν .S, ν .W),
       (
         omega (arith, second .before .number .ensures .0, fine .t1),
         omega (arith, second .number2 .ensures .0, fine .t2),
@@ -33,19 +33,21 @@ unit-rise-requires c κs =
     )
 
 returns : tie.Need-returns
-unfolding E
+unfolding E alternating
 returns c =
     let second = c .before .before .before in
-    let is = second .before .before .pre .1 in
-    let n = is .0 in
-    let r = is .1 in
-    let s = is .2 in
-    let w = is .3 in
+    let start = second .before .before in
+    let x = start .args .t1 in
+    let l = start .args .l in
+    let r = start .pre .passes .r-is in
     let t1 = second .before .number .ensures .0 in
     let t2 = second .number2 .ensures .0 in
     let t3 = c .before .before .number3 .ensures .0 in
     let t4 = c .before .number4 .ensures .0 in
-    c .unit-rise .ensures ∙ (λ i. unitRise (n i) (r i) (s i) (w i) (t1 i) (t2 i) (t3 i) (t4 i))
+    let rise : Numbers → ℕ = λ ν. unitRise (ν .n) (ν .R) (ν .S) (ν .W) (Field.t1 x) (Field.t2 x) (Field.t3 x) (Field.t4 x) in
+    c .unit-rise .ensures
+    ∙ (λ i. unitRise (l .n) (r i) (l .s) (l .w) (t1 i) (t2 i) (t3 i) (t4 i))
+    ∙ sym (ap rise (start .pre .loses .numbers-are))
 
 pub unit-rise-of-spec : {M : Type 1} → statement M
 unit-rise-of-spec =

@@ -51,7 +51,7 @@ pub(crate) fn both_ends(x: Case) -> Answer
     ensures { λ r. ⌜ answerOf r ≡ rateOf x ⌝ }
 {
     match judge(x, both_ends_rules(x)) {
-        Judgement::Refused(number) => refuse(number),
+        Judgement::Refused(number) => refuse(x, number),
         Judgement::Passed(p) => load(x, p, both_ends_losses(x, p)),
     }
 }

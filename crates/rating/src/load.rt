@@ -52,12 +52,12 @@ pub(crate) fn load(x: Case, p: Shared, l: Losses) -> Answer
     let dd = dielectric_rise_of(x, l.n, p.wd);
     let permitted = rise(x);
     if 90000000 * permitted < 10 * dd {
-        return refuse(10);
+        return refuse(x, 10);
     }
     let e = unit_rise_of(x, p, l);
     let i = current_of(x, permitted, dd, e);
     if MOST_CURRENT < i {
-        return refuse(11);
+        return refuse(x, 11);
     }
     Answer {
         answer: 0,

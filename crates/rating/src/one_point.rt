@@ -52,7 +52,7 @@ pub(crate) fn one_point(x: Case, j: u64) -> Answer
     ensures { λ r. ⌜ answerOf r ≡ rateOf x ⌝ }
 {
     match judge(x, one_point_rules(x)) {
-        Judgement::Refused(number) => refuse(number),
+        Judgement::Refused(number) => refuse(x, number),
         Judgement::Passed(p) => load(x, p, one_point_losses(x, j, p)),
     }
 }

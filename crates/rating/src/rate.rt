@@ -17,8 +17,9 @@ pub struct Answer {
     pub sheet: [u64; SHEET],
 }
 
-pub(crate) fn refuse(number: u32) -> Answer
-    ensures { λ r. ⌜ answerOf r ≡ refused number ⌝ }
+pub(crate) fn refuse(x: Case, number: u32) -> Answer
+    requires { ⌜ rateOf x ≡ refused number ⌝ }
+    ensures { λ r. ⌜ answerOf r ≡ rateOf x ⌝ }
 {
     Answer {
         answer: number,
@@ -37,6 +38,6 @@ pub fn rate(x: Case) -> Answer
         3 => one_point(x, 1),
         4 => one_point(x, 2),
         5 => sl_type(x),
-        _ => refuse(1),
+        _ => refuse(x, 1),
     }
 }

@@ -102,7 +102,7 @@ pub(crate) fn sl_type(x: Case) -> Answer
     ensures { λ r. ⌜ answerOf r ≡ rateOf x ⌝ }
 {
     match judge(x, sl_type_rules(x)) {
-        Judgement::Refused(number) => refuse(number),
+        Judgement::Refused(number) => refuse(x, number),
         Judgement::Passed(p) => load(x, p, sl_type_losses(x, p)),
     }
 }

@@ -52,11 +52,9 @@ mul-if1 c = omega (arith, c .rise .ensures, rise-range (c .before .before .pre .
 mul-if1-2 : tie.Need-mul-if1-2
 mul-if1-2 c = omega (arith, dd-is (c .before), numbers-in-range (c .before .before .pre .passes .fit) .dd)
 
-returns : tie.Need-returns
+refuse-requires : tie.Need-refuse-requires
 unfolding loaded
-returns c =
-    let rise = c .before .before in
-    simp (rise .before .before .pre .passes .answer, hot rise ∙ lt-ltb _ _ (c .before .if1 .taken)) (c .refuse .ensures)
+refuse-requires c κs = c .before .before .before .pre .passes .answer ∙ simp (hot (c .before) ∙ lt-ltb _ _ (c .if1 .taken))
 
 unit-rise-of-requires : tie.Need-unit-rise-of-requires
 unit-rise-of-requires c κs = c .before .before .before .pre
@@ -73,14 +71,13 @@ current-of-requires c κs =
       share = cool .if1 .left;
     }
 
-returns-2 : tie.Need-returns-2
+refuse-requires-2 : tie.Need-refuse-requires-2
 unfolding loaded currentRefused
-returns-2 c =
-    let current = c .before .before in
+refuse-requires-2 c κs =
+    let current = c .before in
     let cool = current .before .before in
-    let over = ap (ltb 5000000) (sym (current .current-of .ensures)) ∙ lt-ltb _ _ (c .before .if2 .taken) in
-    let answer = cool .before .before .before .pre .passes .answer in
-    simp (answer, hot (cool .before) ∙ le-ltb _ _ (cool .if1 .left), over) (c .refuse2 .ensures)
+    let over = ap (ltb 5000000) (sym (current .current-of .ensures)) ∙ lt-ltb _ _ (c .if2 .taken) in
+    cool .before .before .before .pre .passes .answer ∙ simp (hot (cool .before) ∙ le-ltb _ _ (cool .if1 .left), over)
 
 returns-3 : tie.Need-returns-3
 unfolding loaded currentRefused rated sheetOf alternating
@@ -115,11 +112,11 @@ load-spec =
     rise-requires
     mul-if1
     mul-if1-2
-    (λ c κs. search needs)
-    returns
+    refuse-requires
+    (λ c. c .refuse .ensures)
     unit-rise-of-requires
     current-of-requires
-    (λ c κs. search needs)
-    returns-2
+    refuse-requires-2
+    (λ c. c .refuse2 .ensures)
     (λ c. search needs)
     returns-3)

@@ -1,6 +1,6 @@
 -- `rate` is the definition: the arm that the number picks is its arrangement's, and a number that picks none is refused by 1.
 use borrow.Author.Needs.{needs}
-use mathlib.Core.Path.{_≡_, sym, ap, _∙_}
+use mathlib.Core.Path.{_≡_, ap, _∙_}
 use mathlib.Core.Bool.{cond}
 use mathlib.Core.List.{List}
 use Prim.Native.Nat.{ℕ}
@@ -18,12 +18,6 @@ other-refused x none =
     let first : fieldRefusal x ≡ 1 = simp (ap (λ a. a .known) none) in
     rateOf-is x ∙ ap (λ n. cond (eqb n 0) (judged x) (refused n)) first
 
-returns-6 : tie.Need-returns-6
-returns-6 c =
-    let other = c .before .match .rest in
-    let none = other-is _ (other .0 .0 .0 .0 .1) (other .0 .0 .0 .1) (other .0 .0 .1) (other .0 .1) (other .1) in
-    c .refuse .ensures ∙ sym (other-refused _ none)
-
 pub rate-spec : {M : Type 1} → statement M
 unfolding arrangementOf
 rate-spec =
@@ -35,10 +29,12 @@ rate-spec =
     (λ c κs. record { own-is = ap arrangementOf (c .match .keys3); j-most = lit≤ tt })
     (λ c κs. record { own-is = ap arrangementOf (c .match .keys4); j-most = lit≤ tt })
     (λ c κs. ap arrangementOf (c .match .keys5))
-    (λ c κs. search needs)
+    (λ c κs.
+    let other = c .match .rest in
+    other-refused _ (other-is _ (other .0 .0 .0 .0 .1) (other .0 .0 .0 .1) (other .0 .0 .1) (other .0 .1) (other .1)))
     (λ c. c .both-ends .ensures)
     (λ c. c .both-ends2 .ensures)
     (λ c. c .one-point .ensures)
     (λ c. c .one-point2 .ensures)
     (λ c. c .sl-type .ensures)
-    returns-6)
+    (λ c. c .refuse .ensures))

@@ -1,5 +1,5 @@
--- What an arrangement's module proves of its arrangement holds of the one that the case has, and the other way round, where the case has
--- that arrangement. Assumes nothing.
+-- Where a case has the arrangement whose module rates it, what the steps say of the one holds of the other; and what `judge` said holds of
+-- each of its two answers. Assumes nothing.
 use mathlib.Core.Path.{_≡_, subst, subst⁻¹}
 use mathlib.Core.List.{List}
 use Prim.Native.Nat.{ℕ}
@@ -23,6 +23,6 @@ module _ {a : Arrangement} {x : List ℕ} (own-is : own x ≡ a) where
   pub passes : {j : Judgement} {p : Shared} → Judges x j → j ≡ Passed p → Passes a x p
   passes {j} {p} judges is = subst (λ a. Passes a x p) own-is (subst (Judges x) is judges)
 
-  pub loads : {p : Shared} {l : Losses} → Passes a x p → Loses a x l → Loads x p l
-  loads {p} {l} passes loses =
-      record { passes = subst⁻¹ (λ a. Passes a x p) own-is passes; loses = subst⁻¹ (λ a. Loses a x l) own-is loses }
+  pub loads : {j : Judgement} {p : Shared} {l : Losses} → Judges x j → j ≡ Passed p → Loses a x l → Loads x p l
+  loads {j} {p} {l} judges is loses =
+      record { passes = subst (Judges x) is judges; loses = subst⁻¹ (λ a. Loses a x l) own-is loses }

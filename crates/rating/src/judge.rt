@@ -17,7 +17,7 @@ use stages::tables::ks;
 // The largest z that refusal 8 lets pass.
 const SKIN_LIMIT: u64 = 7_840_000_000_000;
 
-// R', B, Rs, ys, yp, R and Wd.
+// What every arrangement shares: R', B, Rs, ys, yp, R and Wd.
 pub struct Shared {
     pub rc: u64,
     pub b: u64,
@@ -28,6 +28,7 @@ pub struct Shared {
     pub wd: u64,
 }
 
+// The number of the first refusal that is given, or the values of a case that passed.
 pub enum Judgement {
     Refused(u32),
     Passed(Shared),

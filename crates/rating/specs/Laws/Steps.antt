@@ -35,7 +35,7 @@ pub record Conducts (x : List ℕ) (h : Conduction) : Type 0 where
   pub yp-is : h .yp ≡ yp x
   pub r-is : h .r ≡ R x
 
--- the case x is of arrangement 3, where j is 1, or of 4, where it is 2
+-- the case x is bonded at one point: it is of arrangement 3, where j is 1, or of 4, where it is 2
 pub record IsOnePoint (j : ℕ) (x : List ℕ) : Type 0 where
   pub own-is : own x ≡ onePoint j
   pub j-most : j ≤ 2
@@ -88,7 +88,7 @@ pub record Loses (a : Arrangement) (x : List ℕ) (l : Losses) : Type 0 where
   pub ra-is : l .ra ≡ a .RA x
   pub x-is : l .x ≡ a .X x
 
--- what is left of the case x to rate
+-- what stages 9 and 10 take of the case x: its values that every arrangement shares, and its losses
 pub record Loads (x : List ℕ) (p : Shared) (l : Losses) : Type 0 where
   pub passes : Passes (own x) x p
   pub loses : Loses (own x) x l

@@ -1,2 +1,3 @@
+pub mod Own
 pub mod Temperatures
 pub mod Tests

@@ -1,23 +1,28 @@
 // Arrangements 1 and 2: sheaths bonded at both ends, through which currents circulate.
 ghost use mathlib.Core.Path.{_≡_};
+ghost use Rattle.rating.specs.Arrangements.{own};
 ghost use Rattle.rating.specs.BothEnds.{bothEnds};
-ghost use Rattle.rating.specs.Laws.Fit.{Fit};
-ghost use Rattle.rating.specs.Laws.Steps.{Asks, Loses};
-ghost use Rattle.rating.specs.Values.{Rs, B};
+ghost use Rattle.rating.specs.Laws.Steps.{Asks, Passes, Loses};
+ghost use Rattle.rating.specs.Rate.{answerOf, rateOf};
 use super::arrangement::Losses;
 use super::arrangement::Rules;
 use super::arrangement::armourless;
+use super::judge::Judgement;
+use super::judge::Shared;
+use super::judge::judge;
+use super::load::load;
+use super::rate::Answer;
+use super::rate::refuse;
 use super::sheath_reactance::sheath_reactance_of;
 use fields::Case;
 use fields::SHEATH_DIAMETER;
 use fields::SPACING;
 use stages::sheath::circulating_loss;
 
-pub(crate) fn both_ends_rules(x: Case) -> Rules
+fn both_ends_rules(x: Case) -> Rules
     ensures { λ r. ⌜ Asks bothEnds x r ⌝ }
 {
     Rules {
-        known: true,
         limits: true,
         unused: armourless(x),
         geometry: x[SHEATH_DIAMETER] <= x[SPACING],
@@ -27,16 +32,26 @@ pub(crate) fn both_ends_rules(x: Case) -> Rules
     }
 }
 
-pub(crate) fn both_ends_losses(x: Case, b: u64, rs: u64) -> Losses
-    requires { ⌜ Fit bothEnds x × (b ≡ B x) × (rs ≡ Rs x) ⌝ }
+fn both_ends_losses(x: Case, p: Shared) -> Losses
+    requires { ⌜ Passes bothEnds x p ⌝ }
     ensures { λ l. ⌜ Loses bothEnds x l ⌝ }
 {
-    let reactance = sheath_reactance_of(x, b);
+    let reactance = sheath_reactance_of(x, p.b);
     Losses {
         n: 1,
         ra: 0,
         x: reactance,
-        s: circulating_loss(reactance, rs),
+        s: circulating_loss(reactance, p.rs),
         w: 0,
+    }
+}
+
+pub(crate) fn both_ends(x: Case) -> Answer
+    requires { ⌜ own x ≡ bothEnds ⌝ }
+    ensures { λ r. ⌜ answerOf r ≡ rateOf x ⌝ }
+{
+    match judge(x, both_ends_rules(x)) {
+        Judgement::Refused(number) => refuse(x, number),
+        Judgement::Passed(p) => load(x, p, both_ends_losses(x, p)),
     }
 }

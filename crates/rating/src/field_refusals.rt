@@ -1,4 +1,4 @@
-// Refusals 1 to 7, which look at the fields alone: a test for each, and the number of the first that is not passed.
+// Refusals 2 to 7, which look at the fields alone: a test for each, and the number of the first that is given.
 ghost use mathlib.Core.Bool.{cond};
 ghost use mathlib.Core.Path.{_≡_};
 ghost use lib.IntN.{pos, _-ℤ_};
@@ -146,6 +146,5 @@ pub(crate) fn field_refusal(x: Case, rules: Rules) -> u32
     let from_geometry = first(geometry_refused(x, rules.geometry), 5, from_heat);
     let from_stray = first(!rules.unused, 4, from_geometry);
     let from_limit = first(limit_refused(x, rules.limits), 3, from_stray);
-    let from_conductor = first(conductor_refused(x), 2, from_limit);
-    first(!rules.known, 1, from_conductor)
+    first(conductor_refused(x), 2, from_limit)
 }

@@ -1,11 +1,13 @@
 // The rating of docs/RATING.md: from the 26 words of a case to the answer, the rating and the sheet. Each arrangement has a module of
-// its own, and `arrangement` picks it.
+// its own, and `rate` picks it.
 mod arrangement;
 mod both_ends;
 mod case;
 mod conductor;
 mod dielectric;
 mod field_refusals;
+mod judge;
+mod load;
 mod one_point;
 pub mod rate;
 mod sheath_reactance;

@@ -1,25 +1,29 @@
 // Arrangements 3 and 4: sheaths of lead bonded at one point, which have eddies alone.
 ghost use mathlib.Core.Path.{_≡_};
-ghost use Prim.Native.Nat.{ℕ, _≤_};
+ghost use Prim.Native.Nat.{ℕ};
 ghost use Rattle.rating.specs.OnePoint.{onePoint};
-ghost use Rattle.rating.specs.Laws.Fit.{Fit};
-ghost use Rattle.rating.specs.Laws.Steps.{Asks, Loses};
-ghost use Rattle.rating.specs.Values.{Rs, B};
+ghost use Rattle.rating.specs.Laws.Steps.{IsOnePoint, Asks, PassesOnePoint, Loses};
+ghost use Rattle.rating.specs.Rate.{answerOf, rateOf};
 use super::arrangement::Losses;
 use super::arrangement::Rules;
 use super::arrangement::armourless;
 use super::case::number;
+use super::judge::Judgement;
+use super::judge::Shared;
+use super::judge::judge;
+use super::load::load;
+use super::rate::Answer;
+use super::rate::refuse;
 use fields::Case;
 use fields::SHEATH_DIAMETER;
 use fields::SHEATH_METAL;
 use fields::SPACING;
 use stages::sheath::eddy_loss;
 
-pub(crate) fn one_point_rules(x: Case) -> Rules
+fn one_point_rules(x: Case) -> Rules
     ensures { λ r. ⌜ ((j : ℕ) → Asks (onePoint j) x r) ⌝ }
 {
     Rules {
-        known: true,
         limits: true,
         unused: armourless(x),
         geometry: x[SHEATH_DIAMETER] <= x[SPACING],
@@ -29,15 +33,26 @@ pub(crate) fn one_point_rules(x: Case) -> Rules
     }
 }
 
-pub(crate) fn one_point_losses(x: Case, j: u64, b: u64, rs: u64) -> Losses
-    requires { ⌜ Fit (onePoint j) x × (b ≡ B x) × (rs ≡ Rs x) × (j ≤ 2) ⌝ }
+fn one_point_losses(x: Case, j: u64, p: Shared) -> Losses
+    requires { ⌜ PassesOnePoint j x p ⌝ }
     ensures { λ l. ⌜ Loses (onePoint j) x l ⌝ }
 {
     Losses {
         n: 1,
         ra: 0,
         x: 0,
-        s: eddy_loss(j, b, rs, number(x[SHEATH_DIAMETER]), number(x[SPACING])),
+        s: eddy_loss(j, p.b, p.rs, number(x[SHEATH_DIAMETER]), number(x[SPACING])),
         w: 0,
+    }
+}
+
+// j is 1 in arrangement 3 and 2 in 4.
+pub(crate) fn one_point(x: Case, j: u64) -> Answer
+    requires { ⌜ IsOnePoint j x ⌝ }
+    ensures { λ r. ⌜ answerOf r ≡ rateOf x ⌝ }
+{
+    match judge(x, one_point_rules(x)) {
+        Judgement::Refused(number) => refuse(x, number),
+        Judgement::Passed(p) => load(x, p, one_point_losses(x, j, p)),
     }
 }

@@ -2,10 +2,12 @@
 ghost use mathlib.Core.Path.{_≡_};
 ghost use Rattle.formulas.specs.Armour.{armourLoss};
 ghost use Rattle.fields.specs.Fields.{axisDistance, armourDiameter};
+ghost use Rattle.rating.specs.Arrangements.{own};
 ghost use Rattle.rating.specs.SlType;
 ghost use Rattle.rating.specs.SlType.{slType};
 ghost use Rattle.rating.specs.Laws.Fit.{Fit};
-ghost use Rattle.rating.specs.Laws.Steps.{Asks, Loses};
+ghost use Rattle.rating.specs.Laws.Steps.{Asks, Passes, PassesArmoured, Loses};
+ghost use Rattle.rating.specs.Rate.{answerOf, rateOf};
 ghost use Rattle.rating.specs.Values.{Rs, RA, B, XLow};
 use super::arrangement::Losses;
 use super::arrangement::Rules;
@@ -14,6 +16,12 @@ use super::case::resistance_of;
 use super::field_refusals::not_hotter;
 use super::field_refusals::within;
 use super::field_refusals::within_signed;
+use super::judge::Judgement;
+use super::judge::Shared;
+use super::judge::judge;
+use super::load::load;
+use super::rate::Answer;
+use super::rate::refuse;
 use super::sheath_reactance::sheath_reactance_low_of;
 use super::sheath_reactance::sheath_reactance_of;
 use fields::ARMOUR_DIAMETER;
@@ -40,11 +48,10 @@ fn armour_limits(x: Case) -> bool
         & within(100, 50000, x[ARMOUR_DIAMETER])
 }
 
-pub(crate) fn sl_type_rules(x: Case) -> Rules
+fn sl_type_rules(x: Case) -> Rules
     ensures { λ r. ⌜ Asks slType x r ⌝ }
 {
     Rules {
-        known: true,
         limits: armour_limits(x),
         unused: true,
         geometry: (x[SHEATH_DIAMETER] <= x[SPACING])
@@ -62,25 +69,40 @@ fn armour_resistance(x: Case) -> u64
     resistance_of(x[ARMOUR_RESISTANCE], x[ARMOUR_METAL], x[ARMOUR_TEMPERATURE])
 }
 
-fn armour_loss(x: Case, b: u64, rs: u64, ra: u64) -> u64
-    requires { ⌜ Fit slType x × (b ≡ B x) × (rs ≡ Rs x) × (ra ≡ RA x) ⌝ }
+fn armour_loss(x: Case, p: Shared, ra: u64) -> u64
+    requires { ⌜ PassesArmoured x p ra ⌝ }
     ensures { λ r. ⌜ r ≡ armourLoss (RA x) (B x) (axisDistance x) (armourDiameter x) (XLow x) (Rs x) ⌝ }
 {
-    let unscreened = unscreened_loss(ra, b, number(x[AXIS_DISTANCE]), number(x[ARMOUR_DIAMETER]));
-    screened_loss(unscreened, sheath_reactance_low_of(x), rs)
+    let unscreened = unscreened_loss(
+        ra,
+        p.b,
+        number(x[AXIS_DISTANCE]),
+        number(x[ARMOUR_DIAMETER]),
+    );
+    screened_loss(unscreened, sheath_reactance_low_of(x), p.rs)
 }
 
-pub(crate) fn sl_type_losses(x: Case, b: u64, rs: u64) -> Losses
-    requires { ⌜ Fit slType x × (b ≡ B x) × (rs ≡ Rs x) ⌝ }
+fn sl_type_losses(x: Case, p: Shared) -> Losses
+    requires { ⌜ Passes slType x p ⌝ }
     ensures { λ l. ⌜ Loses slType x l ⌝ }
 {
     let ra = armour_resistance(x);
-    let reactance = sheath_reactance_of(x, b);
+    let reactance = sheath_reactance_of(x, p.b);
     Losses {
         n: 3,
         ra,
         x: reactance,
-        s: sl_loss(reactance, rs),
-        w: armour_loss(x, b, rs, ra),
+        s: sl_loss(reactance, p.rs),
+        w: armour_loss(x, p, ra),
+    }
+}
+
+pub(crate) fn sl_type(x: Case) -> Answer
+    requires { ⌜ own x ≡ slType ⌝ }
+    ensures { λ r. ⌜ answerOf r ≡ rateOf x ⌝ }
+{
+    match judge(x, sl_type_rules(x)) {
+        Judgement::Refused(number) => refuse(x, number),
+        Judgement::Passed(p) => load(x, p, sl_type_losses(x, p)),
     }
 }

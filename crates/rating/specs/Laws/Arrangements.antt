@@ -1,59 +1,24 @@
--- Every arrangement is lawful, whichever number field 0 has; and those that refusal 1 lets pass are 1 to 5. Assumes nothing.
+-- The arrangements that refusal 1 lets pass are 1 to 5; and every arrangement is lawful, whichever number field 0 has. Assumes nothing.
 use mathlib.Core.Path.{_≡_, refl, ap, _∙_}
 use mathlib.Core.Bool.{Bool, true, false, cond, false≢true}
 use mathlib.Core.List.{List}
-use Prim.Native.Nat.{ℕ, zero, suc, _≤_, _<_}
+use Prim.Native.Nat.{ℕ, zero, suc, _<_}
 use native.Mathlib.Omega.{arith}
 use lib.Dec.{leb, eqb, lit≤}
-use borrow.Author.Tests.{leb-true, le-leb, lt-leb, ne-eqb}
-use Rattle.formulas.specs.Dielectric.{dielectricRise}
-use Rattle.formulas.specs.Laws.Ranges.{In}
-use Rattle.fields.specs.Fields as Field
+use borrow.Author.Tests.{le-leb, lt-leb, ne-eqb}
 use Rattle.rating.specs.Within.{within}
-use Rattle.rating.specs.Values.{R, Wd}
-use Rattle.rating.specs.Arrangement.{Arrangement, alternating}
+use Rattle.rating.specs.Arrangement.{Arrangement}
 use Rattle.rating.specs.BothEnds.{bothEnds}
 use Rattle.rating.specs.OnePoint.{onePoint}
 use Rattle.rating.specs.SlType.{slType}
 use Rattle.rating.specs.Arrangements.{noArrangement, arrangementOf}
 use Rattle.rating.specs.Laws.Fit.{Fit}
-use Rattle.rating.specs.Laws.Arrangement.{Lawful, none-lost, alternating-in-range, alternating-close}
+use Rattle.rating.specs.Laws.Arrangement.{Lawful}
 use Rattle.rating.specs.Laws.BothEnds.{both-ends-lawful}
 use Rattle.rating.specs.Laws.OnePoint.{one-point-lawful}
 use Rattle.rating.specs.Laws.SlType.{sl-type-lawful}
 
-spaced : {x : List ℕ} → Fit noArrangement x → Field.conductorDiameter x ≤ Field.spacing x
-unfolding noArrangement
-spaced fit = leb-true _ _ (fit .geometry)
-
-no-arrangement-lawful : Lawful noArrangement
-unfolding noArrangement
-no-arrangement-lawful =
-    let one : In 1 3 1 = record { least = lit≤ tt; most = lit≤ tt } in
-    record {
-      apart = λ reactive placed. absurd (false≢true reactive);
-      spaced = spaced;
-      in-range = λ fit. alternating-in-range fit (spaced fit) one (lit≤ tt) (lit≤ tt);
-      close = λ allowed fit. alternating-close fit (spaced fit) one allowed none-lost none-lost;
-    }
-
--- what holds of each arrangement holds of the one that a number picks
-every :
-    (P : Arrangement → Type 0) → P bothEnds → P (onePoint 1) → P (onePoint 2) → P slType → P noArrangement → (k : ℕ) → P (arrangementOf k)
-unfolding arrangementOf
-every P both-ends one-1 one-2 sl none k =
-    either (eqb k 1) both-ends
-    (either (eqb k 2) both-ends (either (eqb k 3) one-1 (either (eqb k 4) one-2 (either (eqb k 5) sl none))))
-  where
-    either : (t : Bool) {a b : Arrangement} → P a → P b → P (cond t a b)
-    either true of-a of-b = of-a
-    either false of-a of-b = of-b
-
-pub lawful : (k : ℕ) → Lawful (arrangementOf k)
-lawful =
-    every Lawful both-ends-lawful (one-point-lawful 1 (lit≤ tt)) (one-point-lawful 2 (lit≤ tt)) sl-type-lawful no-arrangement-lawful
-
--- a number that is none of these
+-- a number that is none of 1 to 5 picks none
 pub other-is :
     (k : ℕ) → (k ≡ 1 → ⊥) → (k ≡ 2 → ⊥) → (k ≡ 3 → ⊥) → (k ≡ 4 → ⊥) → (k ≡ 5 → ⊥) → arrangementOf k ≡ noArrangement
 unfolding arrangementOf
@@ -79,19 +44,32 @@ known-within (suc (suc (suc (suc (suc (suc k)))))) =
     let under : leb 1 n ≡ true = le-leb 1 n (omega arith) in
     ap (λ a. a .known) none ∙ simp (over, under)
 
--- In every arrangement R is the a.c. resistance, and dd comes from n and the dielectric loss.
+-- no case fits a number that is no arrangement's, so that whatever is asked of one that does holds
+no-arrangement-lawful : Lawful noArrangement
+unfolding noArrangement
+no-arrangement-lawful =
+    record {
+      apart = λ reactive placed. absurd (false≢true reactive);
+      spaced = λ fit. none-fits fit;
+      in-range = λ fit. none-fits fit;
+      close = λ allowed fit. none-fits fit;
+    }
+  where
+    none-fits : {P : Type 0} {x : List ℕ} → Fit noArrangement x → P
+    none-fits fit = absurd (false≢true (fit .known))
 
-pub record Alternating (a : Arrangement) : Type 0 where
-  pub R-is : (x : List ℕ) → a .numbers x .R ≡ R x
-  pub dd-is :
-      (x : List ℕ) → a .numbers x .dd ≡ dielectricRise (a .numbers x .n) (Wd x) (Field.t1 x) (Field.t2 x) (Field.t3 x) (Field.t4 x)
+-- what holds of each arrangement holds of the one that a number picks
+every :
+    (P : Arrangement → Type 0) → P bothEnds → P (onePoint 1) → P (onePoint 2) → P slType → P noArrangement → (k : ℕ) → P (arrangementOf k)
+unfolding arrangementOf
+every P both-ends one-1 one-2 sl none k =
+    either (eqb k 1) both-ends
+    (either (eqb k 2) both-ends (either (eqb k 3) one-1 (either (eqb k 4) one-2 (either (eqb k 5) sl none))))
+  where
+    either : (t : Bool) {a b : Arrangement} → P a → P b → P (cond t a b)
+    either true of-a of-b = of-a
+    either false of-a of-b = of-b
 
-pub alternates : (k : ℕ) → Alternating (arrangementOf k)
-unfolding bothEnds onePoint slType noArrangement alternating
-alternates =
-    every Alternating
-    (record { R-is = λ x. refl; dd-is = λ x. refl })
-    (record { R-is = λ x. refl; dd-is = λ x. refl })
-    (record { R-is = λ x. refl; dd-is = λ x. refl })
-    (record { R-is = λ x. refl; dd-is = λ x. refl })
-    (record { R-is = λ x. refl; dd-is = λ x. refl })
+pub lawful : (k : ℕ) → Lawful (arrangementOf k)
+lawful =
+    every Lawful both-ends-lawful (one-point-lawful 1 (lit≤ tt)) (one-point-lawful 2 (lit≤ tt)) sl-type-lawful no-arrangement-lawful

@@ -10,6 +10,7 @@ use Rattle.rating.specs.Laws.Sound.{Sound}
 
 pub record Fit (a : Arrangement) (x : List ℕ) : Type 0 where
   pub sound : Sound x
+  pub known : a .known ≡ true
   pub limits : a .limits x ≡ true
   pub geometry : a .geometry x ≡ true
   pub skin : zs x ≤ skinLimit

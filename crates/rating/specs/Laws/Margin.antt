@@ -32,6 +32,7 @@ fit {x} p =
     let within-limit = neither _ _ (p .skin) in
     record {
       sound = fine;
+      known = fine .known;
       limits = fine .limits;
       geometry = fine .geometry;
       skin = ltb-false _ _ (within-limit .0);

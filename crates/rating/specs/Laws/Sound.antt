@@ -57,6 +57,7 @@ pub record Sound (x : List ℕ) : Type 0 where
   pub insulated : 105 * Field.screenDiameter x ≤ 100 * Field.insulationDiameter x
   pub sheathed : Field.insulationDiameter x ≤ Field.sheathDiameter x
   pub rise : pos 500 ≤ℤ (Field.conductorTemperature x -ℤ Field.ambientTemperature x)
+  pub known : own x .known ≡ true
   pub limits : own x .limits x ≡ true
   pub geometry : own x .geometry x ≡ true
 
@@ -87,6 +88,7 @@ holds false e = absurd (true≢false e)
 
 -- none of refusals 1 to 7 is given
 record Unrefused (x : List ℕ) : Type 0 where
+  arrangement : arrangementRefused x ≡ false
   conductor : conductorRefused x ≡ false
   limits : limitRefused x ≡ false
   geometry : geometryRefused x ≡ false
@@ -101,10 +103,10 @@ unrefused x none-given =
     let four = passed (strayRefused x) 3 (three .1) in
     let five = passed (geometryRefused x) 4 (four .1) in
     let six = passed (heatRefused x) 5 (five .1) in
-    record { conductor = two .0; limits = three .0; geometry = five .0; heat = six .0 }
+    record { arrangement = one .0; conductor = two .0; limits = three .0; geometry = five .0; heat = six .0 }
 
 pub sound : (x : List ℕ) → fieldRefusal x ≡ 0 → Sound x
-unfolding conductorRefused limitRefused conductorLimits sheathLimits thermalLimits geometryRefused heatRefused
+unfolding arrangementRefused conductorRefused limitRefused conductorLimits sheathLimits thermalLimits geometryRefused heatRefused
 sound x none-given =
     let given : Unrefused x = unrefused x none-given in
     let its-own = both _ _ (holds _ (given .limits)) in
@@ -158,6 +160,7 @@ sound x none-given =
       insulated = leb-true _ _ (core .1);
       sheathed = leb-true _ _ (sheathed .1);
       rise = leZ-true _ _ (rise .0);
+      known = holds _ (given .arrangement);
       limits = its-own .1;
       geometry = placed .1;
     }

@@ -1,6 +1,7 @@
--- `field_refusal` is the definition: from the last refusal to the first, each decides before those after it.
+-- `field_refusal` is the definition: from the last refusal to the first, each decides before those after it. Refusal 1 is not given to an
+-- arrangement.
 use borrow.Author.Needs.{needs}
-use mathlib.Core.Path.{_≡_, refl, ap, ap₂, _∙_}
+use mathlib.Core.Path.{_≡_, refl, sym, ap, ap₂, _∙_}
 use mathlib.Core.Bool.{Bool, cond, not}
 use Prim.Native.Nat.{ℕ}
 use Rattle.rating.specs.FieldRefusals.{arrangementRefused, strayRefused, metalRefused, fieldRefusal}
@@ -16,8 +17,7 @@ decides n is same next = is ∙ ap₂ (λ (t : Bool) (r : ℕ). cond t n r) same
 returns : tie.Need-returns
 unfolding arrangementRefused strayRefused metalRefused fieldRefusal
 returns c =
-    let known = c .before in
-    let conductor = known .before .before in
+    let conductor = c .before in
     let limit = conductor .before .before in
     let stray = limit .before in
     let geometry = stray .before .before .before in
@@ -29,14 +29,13 @@ returns c =
     let from-geometry = decides 5 (stray .before .before .first3 .ensures) (geometry .geometry-refused .ensures) from-heat in
     let from-stray = decides 4 (stray .first4 .ensures) (ap not (rules .unused)) from-geometry in
     let from-limit = decides 3 (conductor .before .first5 .ensures) (limit .limit-refused .ensures) from-stray in
-    let from-conductor = decides 2 (known .before .first6 .ensures) (conductor .conductor-refused .ensures) from-limit in
-    decides 1 (c .first7 .ensures) (ap not (rules .known)) from-conductor
+    let from-conductor = decides 2 (c .first6 .ensures) (conductor .conductor-refused .ensures) from-limit in
+    decides 1 from-conductor (ap not (sym (rules .known))) refl
 
 pub field-refusal-spec : {M : Type 1} → statement M
 field-refusal-spec =
     tie.close
     (tie.spec
-    (λ c κs. search needs)
     (λ c κs. search needs)
     (λ c κs. search needs)
     (λ c κs. search needs)

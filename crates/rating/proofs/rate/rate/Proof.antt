@@ -1,34 +1,40 @@
--- `rate` is the definition: the first refusal of the fields, or what follows.
+-- `rate` is the definition: the arm that the number picks is its arrangement's, and a number that picks none is refused by 1.
 use borrow.Author.Needs.{needs}
-use mathlib.Core.Path.{_∙_, sym, ap}
-use borrow.Author.Tests.{eq-eqb, ne-eqb}
-use Rattle.rating.specs.Rate.{refused, rateOf-is}
+use mathlib.Core.Path.{_≡_, ap, _∙_}
+use mathlib.Core.Bool.{cond}
+use mathlib.Core.List.{List}
+use Prim.Native.Nat.{ℕ}
+use lib.Dec.{eqb, lit≤}
+use Rattle.rating.specs.Arrangements.{noArrangement, arrangementOf, own}
+use Rattle.rating.specs.FieldRefusals.{arrangementRefused, fieldRefusal}
+use Rattle.rating.specs.Rate.{refused, judged, rateOf, rateOf-is}
+use Rattle.rating.specs.Laws.Arrangements.{other-is}
 use Rattle.rating.proofs.rate.rate.Statement.{statement}
 use Rattle.rating.proofs.rate.rate.Tie as tie
 
-field-refusal-requires : tie.Need-field-refusal-requires
-field-refusal-requires c κs = c .rules-of .ensures
-
-judge-requires : tie.Need-judge-requires
-judge-requires c κs = (sym (c .before .field-refusal .ensures) ∙ c .if1 .taken, c .before .before .rules-of .ensures .eddies)
-
-returns : tie.Need-returns
-returns c =
-    let passed = sym (c .before .before .field-refusal .ensures) ∙ c .before .if1 .taken in
-    rw rateOf-is (simp (eq-eqb _ 0 passed) (c .judge .ensures))
-
-returns-2 : tie.Need-returns-2
-returns-2 c =
-    let first = c .before .before .field-refusal .ensures in
-    rw rateOf-is (simp (ne-eqb _ 0 (λ passed. c .before .if1 .left (first ∙ passed))) (c .refuse .ensures ∙ ap refused first))
+other-refused : (x : List ℕ) → own x ≡ noArrangement → rateOf x ≡ refused 1
+unfolding noArrangement fieldRefusal arrangementRefused
+other-refused x none =
+    let first : fieldRefusal x ≡ 1 = simp (ap (λ a. a .known) none) in
+    rateOf-is x ∙ ap (λ n. cond (eqb n 0) (judged x) (refused n)) first
 
 pub rate-spec : {M : Type 1} → statement M
+unfolding arrangementOf
 rate-spec =
     tie.close
     (tie.spec
-    (λ c κs. search needs)
-    field-refusal-requires
-    judge-requires
-    returns
-    (λ c κs. search needs)
-    returns-2)
+    (λ c. search needs)
+    (λ c κs. ap arrangementOf (c .match .keys1))
+    (λ c κs. ap arrangementOf (c .match .keys2))
+    (λ c κs. record { own-is = ap arrangementOf (c .match .keys3); j-most = lit≤ tt })
+    (λ c κs. record { own-is = ap arrangementOf (c .match .keys4); j-most = lit≤ tt })
+    (λ c κs. ap arrangementOf (c .match .keys5))
+    (λ c κs.
+    let other = c .match .rest in
+    other-refused _ (other-is _ (other .0 .0 .0 .0 .1) (other .0 .0 .0 .1) (other .0 .0 .1) (other .0 .1) (other .1)))
+    (λ c. c .both-ends .ensures)
+    (λ c. c .both-ends2 .ensures)
+    (λ c. c .one-point .ensures)
+    (λ c. c .one-point2 .ensures)
+    (λ c. c .sl-type .ensures)
+    (λ c. c .refuse .ensures))

@@ -20,8 +20,8 @@ unscreened-is :
     c .unscreened-loss .result ≡ unscreenedLoss (RA x) (B x) (Field.axisDistance x) (Field.armourDiameter x)
 unscreened-is c =
     let pre = c .before .before .before .pre in
-    let ra = pre .3 in
-    let b = pre .1 in
+    let ra = pre .ra-is in
+    let b = pre .passes .b-is in
     let d = c .before .before .number .ensures .same in
     let dA = c .before .number2 .ensures .same in
     c .unscreened-loss .ensures ∙ (λ i. unscreenedLoss (ra i) (b i) (d i) (dA i))
@@ -29,11 +29,14 @@ unscreened-is c =
 unscreened-loss-requires : tie.Need-unscreened-loss-requires
 unscreened-loss-requires c κs =
     let start = c .before .before in
-    let fit : Fit slType (start .args .t1) = start .pre .0 in
+    let fit : Fit slType (start .args .t1) = start .pre .passes .fit in
     let known : Armoured (start .args .t1) = armoured fit in
     record {
       reduced =
-          record { ra-most = omega (arith, start .pre .3, RA-range fit); b-least = omega (arith, start .pre .1, B-range (fit .sound)) };
+          record {
+            ra-most = omega (arith, start .pre .ra-is, RA-range fit);
+            b-least = omega (arith, start .pre .passes .b-is, B-range (fit .sound));
+          };
       da>0 = omega (arith, c .number2 .ensures .same, known .diameter);
       da-most = omega (arith, c .number2 .ensures .same, known .diameter);
       c-most = omega (arith, c .number2 .ensures .same, c .before .number .ensures .same, known .distance);
@@ -41,14 +44,14 @@ unscreened-loss-requires c κs =
 
 sheath-reactance-low-of-requires : tie.Need-sheath-reactance-low-of-requires
 sheath-reactance-low-of-requires c κs =
-    let fit = c .before .before .before .pre .0 in
+    let fit = c .before .before .before .pre .passes .fit in
     record { sound = fit .sound; apart = armoured fit .apart }
 
 screened-loss-requires : tie.Need-screened-loss-requires
 screened-loss-requires c κs =
     let start = c .before .before .before .before in
     let x = start .args .t1 in
-    let fit : Fit slType x = start .pre .0 in
+    let fit : Fit slType x = start .pre .passes .fit in
     let known : Armoured x = armoured fit in
     let dA>0 : 0 < Field.armourDiameter x = omega (arith, known .diameter) in
     record {
@@ -61,7 +64,7 @@ screened-loss-requires c κs =
       ratio =
           record {
             x-most = omega (arith, c .sheath-reactance-low-of .ensures, XLow-range (fit .sound) (known .apart));
-            rs-least = omega (arith, start .pre .2, Rs-range (fit .sound));
+            rs-least = omega (arith, start .pre .passes .rs-is, Rs-range (fit .sound));
           };
     }
 
@@ -70,7 +73,7 @@ unfolding armourLoss
 returns c =
     let w = unscreened-is (c .before .before) in
     let x = c .before .sheath-reactance-low-of .ensures in
-    let rs = c .before .before .before .before .before .pre .2 in
+    let rs = c .before .before .before .before .before .pre .passes .rs-is in
     c .screened-loss .ensures ∙ (λ i. screenedLoss (w i) (x i) (rs i))
 
 pub armour-loss-spec : {M : Type 1} → statement M

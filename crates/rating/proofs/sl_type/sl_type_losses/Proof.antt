@@ -1,6 +1,6 @@
 -- `sl_type_losses` is the definition.
 use borrow.Author.Needs.{needs}
-use mathlib.Core.Path.{refl, _∙_}
+use mathlib.Core.Path.{sym, _∙_}
 use Rattle.formulas.specs.Sheath.{slLoss}
 use Rattle.rating.specs.Arrangement.{alternating}
 use Rattle.rating.specs.SlType.{slType}
@@ -12,25 +12,26 @@ use Rattle.rating.proofs.sl_type.sl_type_losses.Tie as tie
 sheath-reactance-of-requires : tie.Need-sheath-reactance-of-requires
 sheath-reactance-of-requires c κs =
     let pre = c .before .pre in
-    record { sheaths = record { sound = pre .0 .sound; apart = armoured (pre .0) .apart }; b-is = pre .1 }
+    record { sheaths = record { sound = pre .fit .sound; apart = armoured (pre .fit) .apart }; b-is = pre .b-is }
 
 sl-loss-requires : tie.Need-sl-loss-requires
 sl-loss-requires c κs =
     let pre = c .before .before .pre in
-    circulating-ranges (pre .0 .sound) (armoured (pre .0) .apart) (c .sheath-reactance-of .ensures) (pre .2)
+    circulating-ranges (pre .fit .sound) (armoured (pre .fit) .apart) (c .sheath-reactance-of .ensures) (pre .rs-is)
 
 returns : tie.Need-returns
-unfolding slType alternating
+unfolding slType
 returns c =
     let reactance = c .before .before in
+    let start = reactance .before .before in
     let x = reactance .sheath-reactance-of .ensures in
-    let rs = reactance .before .before .pre .2 in
+    let rs = start .pre .rs-is in
+    let s = sym (c .before .sl-loss .ensures ∙ (λ i. slLoss (x i) (rs i))) in
+    let w = sym (c .armour-loss .ensures) in
     record {
-      n-is = refl;
+      numbers-are = λ i. alternating 3 (s i) (w i) (start .args .x);
       ra-is = reactance .before .armour-resistance .ensures;
       x-is = x;
-      s-is = c .before .sl-loss .ensures ∙ (λ i. slLoss (x i) (rs i));
-      w-is = c .armour-loss .ensures;
     }
 
 pub sl-type-losses-spec : {M : Type 1} → statement M

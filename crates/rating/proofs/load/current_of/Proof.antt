@@ -9,28 +9,26 @@ use Rattle.rating.specs.Values.{riseOf}
 use Rattle.rating.specs.Stage10.{N, currentOf}
 use Rattle.rating.specs.Laws.Rise.{rise-range}
 use Rattle.rating.specs.Laws.Stage10.{E-range}
-use Rattle.rating.proofs.rate.current_of.Statement.{statement}
-use Rattle.rating.proofs.rate.current_of.Tie as tie
+use Rattle.rating.proofs.load.current_of.Statement.{statement}
+use Rattle.rating.proofs.load.current_of.Tie as tie
 
 rise-most : (c : tie.Start) → c .args .permitted ≤ 29000
 unfolding riseOf
-rise-most c = omega (arith, c .pre .0 .1, rise-range (c .pre .0 .0 .sound))
+rise-most c = omega (arith, c .pre .permitted-is, rise-range (c .pre .fit .sound))
 
 mul-rating : tie.Need-mul-rating
 mul-rating c = omega (arith, rise-most c)
 
 rating-requires : tie.Need-rating-requires
 rating-requires c κs =
-    let pre = c .pre .0 in
-    record { N-most = omega (arith, rise-most c); E-least = omega (arith, pre .3, E-range (pre .0)) }
+    record { N-most = omega (arith, rise-most c); E-least = omega (arith, c .pre .e-is, E-range (c .pre .fit)) }
 
 returns : tie.Need-returns
 unfolding currentOf N currentRise permittedRise
 returns c =
-    let pre = c .before .pre .0 in
-    let permitted = pre .1 in
-    let dd = pre .2 in
-    let e = pre .3 in
+    let permitted = c .before .pre .permitted-is in
+    let dd = c .before .pre .dd-is in
+    let e = c .before .pre .e-is in
     c .rating .ensures ∙ (λ i. rating (10000000 * permitted i - dd i) (e i))
 
 pub current-of-spec : {M : Type 1} → statement M

@@ -81,7 +81,7 @@ pub record Demand1 : Type 0 where
       readOf b used index
       ≡ orRefused (λ n. record { number = n; fields = replicate 28 0 }) (readRefusals l b used index)
       (record { number = 0; fields = wordsAt b (placeFrom l first index) (recordFields l) })
-  -- refusal 23 names a record k that differs from its case's rating; which one is free
+  -- refusal 23 names a record k; which one is free, and the contract of `accept` says that it differs from its case's rating (`Differs`)
   pub accept :
       (b : List ℕ) (used k : ℕ) →
       let l = layoutOf b used in
@@ -159,7 +159,7 @@ pub record Demand3 : Type 0 where
       (b : List ℕ) (used : ℕ) → Accepted b used → (k i : ℕ) (x : List ℕ) → length x ≡ 26 →
       readOf b used k ≡ record { number = 0; fields = x ++ (0 ∷ i ∷ []) } → (c : Chosen) → Allowed (own x) x c →
       whole (permittedOf x) <F exactRise x c (whole (i + 2))
-  -- there are such fractions for every case
+  -- there are such fractions for every case: the lower ends
   pub some : (x : List ℕ) → Allowed (own x) x (lowest x)
 
 pub demand-3 : Demand3

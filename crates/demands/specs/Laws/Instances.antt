@@ -13,12 +13,14 @@ use Rattle.rating.specs.Laws.Answers.{cable, aluminium, answered}
 use Rattle.rating.specs.Laws.Instances.{chosen, chosen-allowed}
 use Rattle.rating.specs.Laws.Logarithms.{lowest}
 use Rattle.book_laws.specs.Bytes.{numberAt, stands, below}
-use Rattle.book_laws.specs.Trailer.{wrongTrailer, describeAt, describeIn}
+use Rattle.book_laws.specs.Trailer.{wrongTrailer, describeAt, describeIn, onBookIn}
+use Rattle.book_laws.specs.Record.{allAgree}
 use Rattle.book_laws.specs.Start.{Written}
+use Rattle.book_laws.specs.Append.{appendAfter, appendIn}
 use Rattle.book_laws.specs.Accept.{Acceptance}
 use Rattle.book_laws.specs.Build.{allCases}
 use Rattle.book_laws.specs.Built.{builtIn}
-use Rattle.book_laws.specs.Book.{Accepted, startOf, appendOf, casesOf, build, Kept}
+use Rattle.book_laws.specs.Book.{Accepted, Appended, startOf, appendOf, casesOf, build, Kept}
 use Rattle.book_laws.specs.Laws.Literal.{small-book, fresh-book, literal, edges}
 use Rattle.demands.specs.Demands.{demand-1, demand-2, demand-3}
 
@@ -38,7 +40,7 @@ refused-append =
     demand-1 .refused-append (fresh-book 111) 18 cable
     (λ none. suc-ne-zero 23 (sym (ap (λ (w : Written). w .number) (edges .append-short cable)) ∙ none))
 
--- Demand 2: the cable and the case of 26 zeros in a fresh book, and the small book built again and appended to.
+-- Demand 2: the cable and the case of 26 zeros in a fresh book, the small book built again, and the cable appended to a book of no records.
 
 abbrev two-cases : List (List ℕ)
 two-cases = cable ∷ replicate 26 0 ∷ []
@@ -55,6 +57,14 @@ fine = demand-2 .accepted small-book 130 0 (ap (λ (a : Acceptance). a .number) 
 rebuilt : build (79 ∷ 75 ∷ replicate 129 7) 2 (casesOf small-book 130) ≡ record { number = 0; used = 130; bytes = small-book ++ (7 ∷ []) }
 unfolding describeIn describeAt wrongTrailer stands numberAt below
 rebuilt = demand-2 .rebuilt small-book 130 refl fine (79 ∷ 75 ∷ replicate 129 7) (lit≤ tt) refl
+
+fresh : Accepted (fresh-book 224) 18
+unfolding describeIn describeAt wrongTrailer stands allAgree numberAt
+fresh = record { trailer-right = refl; all-agree = refl }
+
+appended : Appended (fresh-book 224) 18 cable (appendOf (fresh-book 224) 18 cable)
+unfolding allCases appendIn appendAfter onBookIn describeIn describeAt wrongTrailer stands numberAt below
+appended = demand-2 .appended (fresh-book 224) 18 cable refl fresh refl refl
 
 -- Demand 3: the small book's record, with chosen fractions and with the lowest that there are.
 

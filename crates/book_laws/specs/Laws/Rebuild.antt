@@ -126,14 +126,16 @@ module _ {l : Layout} (lawful : Lawful l) (b : List ℕ) (used : ℕ) (bytes : b
   pub read-cases : casesReadIn l b used count ≡ cases
   read-cases = cases-read l b used (fine .trailer-right) count (omega arith)
 
-  -- For every accepted book in a buffer of bytes: built from its cases in a buffer that is long enough and has the note at its front, nothing is refused,
-  -- the used length is the same, and so is every byte of the book; what stood behind stays.
+  -- For every accepted book in a buffer of bytes: built from its cases in a buffer that is long enough and has the note at its front,
+  -- nothing is refused, the used length is the same, and so is every byte of the book; what stood behind stays.
   pub rebuiltIn :
       let d = describeIn l b used in
       (c : List ℕ) → used ≤ length c → take (d .first) c ≡ take (d .first) b →
       buildIn l c (d .first) (casesReadIn l b used (d .count)) ≡ record { number = 0; used = used; bytes = take used b ++ drop used c }
   rebuiltIn c long same-note =
-      ap (buildIn l c note) read-cases ∙ buildIn-fits lawful c note cases (cases-are l b note count bytes) (cases-fit c long) ∙ cases-stand c long same-note
+      ap (buildIn l c note) read-cases
+      ∙ buildIn-fits lawful c note cases (cases-are l b note count bytes) (cases-fit c long)
+      ∙ cases-stand c long same-note
 
   -- in a buffer as long as the book
   pub rebuiltIn-whole :

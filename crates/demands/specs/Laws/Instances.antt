@@ -1,5 +1,5 @@
--- The demands on the small book of docs/BOOK.md, which has the record of one cable, and on cases that are rated and refused. So every premise
--- of every demand is met by something. Assumes nothing.
+-- The demands on the small book of docs/BOOK.md, which has the record of one cable, and on cases that are rated and refused. So every
+-- premise of every demand is met by something. Assumes nothing.
 use mathlib.Core.List.{List, [], _∷_, _++_}
 use mathlib.Core.Path.{_≡_, refl, sym, ap, _∙_}
 use Prim.Native.Nat.{ℕ}

@@ -1,6 +1,6 @@
--- The whole answer, number, rating and sheet, to one case of each arrangement and to one that is refused, computed from the definitions alone.
--- The cases are the first ones of the files in examples/. So a definition that is wrong in any stage, any field or any place of the sheet
--- is refused here. Assumes nothing.
+-- The whole answer, number, rating and sheet, to one case of each arrangement and to one that is refused, computed from the definitions
+-- alone. The cases are the first ones of the files in examples/. A definition that gives them another number in any place is refused here.
+-- Assumes nothing.
 use mathlib.Core.Path.{_≡_}
 use mathlib.Core.List.{List, [], _∷_}
 use Prim.Native.Nat.{ℕ}
@@ -12,7 +12,18 @@ use Rattle.formulas.specs.Reactance.{reactance, reactanceLow}
 use Rattle.formulas.specs.Skin.{skinReactance, skinRatio, skinRatioSquared, factor, skinFactor}
 use Rattle.formulas.specs.Proximity.{spacingRatio, proximityH, proximityG, proximityFactor, acResistance}
 use Rattle.formulas.specs.Spacing.{spacingLogHigh, spacingLogLow, sheathReactance, sheathReactanceLow}
-use Rattle.formulas.specs.Sheath.{bondRatio, bondRatioSquared, circulatingLoss, threeHalves, slLoss, eddyRatio, eddyRatioSquared, eddyFactor, eddySpacing, eddyLoss}
+use Rattle.formulas.specs.Sheath.{
+  bondRatio,
+  bondRatioSquared,
+  circulatingLoss,
+  threeHalves,
+  slLoss,
+  eddyRatio,
+  eddyRatioSquared,
+  eddyFactor,
+  eddySpacing,
+  eddyLoss,
+}
 use Rattle.formulas.specs.Armour.{
   armourRatio,
   armourRatioSquared,

@@ -58,7 +58,8 @@ module _
       }
 
   pub alternating-close :
-      {c : Chosen} → Allowed a x c → {s* w* : Fraction} {s w : ℕ} → Within 40000 (whole 2000) s* (whole s) → Within 40000 (whole 2000) w* (whole w) →
+      {c : Chosen} → Allowed a x c → {s* w* : Fraction} {s w : ℕ} → Within 40000 (whole 2000) s* (whole s) →
+      Within 40000 (whole 2000) w* (whole w) →
       Close (alternating* n s* w* x c) (alternating n s w x)
   unfolding alternating alternating*
   alternating-close allowed s-close w-close =

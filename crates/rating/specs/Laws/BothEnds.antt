@@ -44,7 +44,8 @@ unfolding bothEnds
 S-close allowed fit =
     let fine = fit .sound in
     let apart = both-ends-apart fit in
-    within-weaken (lit≤ tt) (whole-mono (lit≤ tt)) (circulating-close (X-range fine apart .least) (Rs-range fine) (X-close allowed fine refl apart))
+    within-weaken (lit≤ tt) (whole-mono (lit≤ tt))
+    (circulating-close (X-range fine apart .least) (Rs-range fine) (X-close allowed fine refl apart))
 
 pub both-ends-lawful : Lawful bothEnds
 unfolding bothEnds

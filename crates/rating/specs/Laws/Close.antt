@@ -64,5 +64,6 @@ module _ {a : Arrangement} {x : List ℕ} {c : Chosen} (allowed : Allowed a x c)
     unfolding X* B* XLow
     XLow-close =
         within-weaken (lit≤ tt) (≤F-refl (whole 1) (lit< tt))
-        (sheathReactanceLow-close (Field.arrangement x) (allowed .pi) (allowed .ln2) (fine .frequency) (allowed .logSpacing reactive) d>0 apart
+        (sheathReactanceLow-close (Field.arrangement x) (allowed .pi) (allowed .ln2) (fine .frequency) (allowed .logSpacing reactive) d>0
+        apart
         (spacing-ratio fine apart))

@@ -1,26 +1,19 @@
 // Arrangements 3 and 4: sheaths of lead bonded at one point, which have eddies alone.
-ghost use mathlib.Core.Path.{_≡_};
 ghost use Prim.Native.Nat.{ℕ};
 ghost use Rattle.rating.specs.OnePoint.{onePoint};
-ghost use Rattle.rating.specs.Laws.Steps.{IsOnePoint, Asks, PassesOnePoint, Loses};
-ghost use Rattle.rating.specs.Rate.{answerOf, rateOf};
+ghost use Rattle.rating.specs.Laws.Steps.{Asks, PassesOnePoint, Loses};
 use super::arrangement::Losses;
 use super::arrangement::Rules;
 use super::arrangement::armourless;
 use super::case::number;
-use super::judge::Judgement;
 use super::judge::Shared;
-use super::judge::judge;
-use super::load::load;
-use super::rate::Answer;
-use super::rate::refuse;
 use fields::Case;
 use fields::SHEATH_DIAMETER;
 use fields::SHEATH_METAL;
 use fields::SPACING;
 use stages::sheath::eddy_loss;
 
-fn one_point_rules(x: Case) -> Rules
+pub(crate) fn one_point_rules(x: Case) -> Rules
     ensures { λ r. ⌜ ((j : ℕ) → Asks (onePoint j) x r) ⌝ }
 {
     Rules {
@@ -33,7 +26,8 @@ fn one_point_rules(x: Case) -> Rules
     }
 }
 
-fn one_point_losses(x: Case, j: u64, p: Shared) -> Losses
+// j is 1 in arrangement 3 and 2 in 4.
+pub(crate) fn one_point_losses(x: Case, j: u64, p: Shared) -> Losses
     requires { ⌜ PassesOnePoint j x p ⌝ }
     ensures { λ l. ⌜ Loses (onePoint j) x l ⌝ }
 {
@@ -43,16 +37,5 @@ fn one_point_losses(x: Case, j: u64, p: Shared) -> Losses
         x: 0,
         s: eddy_loss(j, p.b, p.rs, number(x[SHEATH_DIAMETER]), number(x[SPACING])),
         w: 0,
-    }
-}
-
-// j is 1 in arrangement 3 and 2 in 4.
-pub(crate) fn one_point(x: Case, j: u64) -> Answer
-    requires { ⌜ IsOnePoint j x ⌝ }
-    ensures { λ r. ⌜ answerOf r ≡ rateOf x ⌝ }
-{
-    match judge(x, one_point_rules(x)) {
-        Judgement::Refused(number) => refuse(x, number),
-        Judgement::Passed(p) => load(x, p, one_point_losses(x, j, p)),
     }
 }

@@ -1,9 +1,14 @@
-// The rating of a case of any 26 words. The arrangement's module rates it; a number that is no arrangement's is refused by 1.
+// The rating of a case of any 26 words. Its number picks the arrangement, whose rules and losses the steps take; a number that is no
+// arrangement's is refused by 1.
 ghost use mathlib.Core.Path.{_≡_};
+ghost use Rattle.rating.specs.Laws.Steps.{Has};
 ghost use Rattle.rating.specs.Rate.{answerOf, refused, rateOf};
-use super::both_ends::both_ends;
-use super::one_point::one_point;
-use super::sl_type::sl_type;
+use super::arrangement::Kind;
+use super::arrangement::losses_of;
+use super::arrangement::rules_of;
+use super::judge::Judgement;
+use super::judge::judge;
+use super::load::load;
 use fields::ARRANGEMENT;
 use fields::Case;
 
@@ -28,16 +33,28 @@ pub(crate) fn refuse(x: Case, number: u32) -> Answer
     }
 }
 
+// A case that has the kind's arrangement.
+fn rate_in(x: Case, kind: Kind) -> Answer
+    requires { ⌜ Has x kind ⌝ }
+    ensures { λ r. ⌜ answerOf r ≡ rateOf x ⌝ }
+{
+    match judge(x, rules_of(x, kind)) {
+        Judgement::Refused(number) => refuse(x, number),
+        Judgement::Passed(p) => load(x, p, losses_of(x, kind, p)),
+    }
+}
+
 pub fn rate(x: Case) -> Answer
     ensures { λ r. ⌜ answerOf r ≡ rateOf x ⌝ }
 {
     let arrangement = x[ARRANGEMENT];
-    match arrangement {
-        1 => both_ends(x),
-        2 => both_ends(x),
-        3 => one_point(x, 1),
-        4 => one_point(x, 2),
-        5 => sl_type(x),
-        _ => refuse(x, 1),
-    }
+    let kind = match arrangement {
+        1 => Kind::BothEnds,
+        2 => Kind::BothEnds,
+        3 => Kind::OnePoint(1),
+        4 => Kind::OnePoint(2),
+        5 => Kind::SlType,
+        _ => return refuse(x, 1),
+    };
+    rate_in(x, kind)
 }

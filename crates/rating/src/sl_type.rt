@@ -2,12 +2,10 @@
 ghost use mathlib.Core.Path.{_≡_};
 ghost use Rattle.formulas.specs.Armour.{armourLoss};
 ghost use Rattle.fields.specs.Fields.{axisDistance, armourDiameter};
-ghost use Rattle.rating.specs.Arrangements.{own};
 ghost use Rattle.rating.specs.SlType;
 ghost use Rattle.rating.specs.SlType.{slType};
 ghost use Rattle.rating.specs.Laws.Fit.{Fit};
 ghost use Rattle.rating.specs.Laws.Steps.{Asks, Passes, PassesArmoured, Loses};
-ghost use Rattle.rating.specs.Rate.{answerOf, rateOf};
 ghost use Rattle.rating.specs.Values.{Rs, RA, B, XLow};
 use super::arrangement::Losses;
 use super::arrangement::Rules;
@@ -16,12 +14,7 @@ use super::case::resistance_of;
 use super::field_refusals::not_hotter;
 use super::field_refusals::within;
 use super::field_refusals::within_signed;
-use super::judge::Judgement;
 use super::judge::Shared;
-use super::judge::judge;
-use super::load::load;
-use super::rate::Answer;
-use super::rate::refuse;
 use super::sheath_reactance::sheath_reactance_low_of;
 use super::sheath_reactance::sheath_reactance_of;
 use fields::ARMOUR_DIAMETER;
@@ -48,7 +41,7 @@ fn armour_limits(x: Case) -> bool
         & within(100, 50000, x[ARMOUR_DIAMETER])
 }
 
-fn sl_type_rules(x: Case) -> Rules
+pub(crate) fn sl_type_rules(x: Case) -> Rules
     ensures { λ r. ⌜ Asks slType x r ⌝ }
 {
     Rules {
@@ -82,7 +75,7 @@ fn armour_loss(x: Case, p: Shared, ra: u64) -> u64
     screened_loss(unscreened, sheath_reactance_low_of(x), p.rs)
 }
 
-fn sl_type_losses(x: Case, p: Shared) -> Losses
+pub(crate) fn sl_type_losses(x: Case, p: Shared) -> Losses
     requires { ⌜ Passes slType x p ⌝ }
     ensures { λ l. ⌜ Loses slType x l ⌝ }
 {
@@ -94,15 +87,5 @@ fn sl_type_losses(x: Case, p: Shared) -> Losses
         x: reactance,
         s: sl_loss(reactance, p.rs),
         w: armour_loss(x, p, ra),
-    }
-}
-
-pub(crate) fn sl_type(x: Case) -> Answer
-    requires { ⌜ own x ≡ slType ⌝ }
-    ensures { λ r. ⌜ answerOf r ≡ rateOf x ⌝ }
-{
-    match judge(x, sl_type_rules(x)) {
-        Judgement::Refused(number) => refuse(x, number),
-        Judgement::Passed(p) => load(x, p, sl_type_losses(x, p)),
     }
 }

@@ -5,6 +5,8 @@ use mathlib.Core.Bool.{Bool, true}
 use mathlib.Core.List.{List}
 use Prim.Native.Nat.{ℕ, _*_, _≤_}
 use lib.IntN.{ℤ, pos, negℤ}
+use Rattle.rating.specs.declared.arrangement.Kind.{Kind}
+use Rattle.rating.specs.declared.arrangement.Kind.the-variants.{BothEnds, OnePoint, SlType}
 use Rattle.rating.specs.declared.arrangement.Rules.{Rules}
 use Rattle.rating.specs.declared.arrangement.Losses.{Losses}
 use Rattle.rating.specs.declared.conductor.Conduction.{Conduction}
@@ -14,6 +16,7 @@ use Rattle.rating.specs.declared.judge.Judgement.the-variants.{Refused, 
 use Rattle.formulas.specs.Laws.Ranges.{In}
 use Rattle.rating.specs.Values.{R', Rs, RA, B, ys, yp, R, Wd, riseOf}
 use Rattle.rating.specs.Arrangement.{Arrangement, alternating}
+use Rattle.rating.specs.BothEnds.{bothEnds}
 use Rattle.rating.specs.OnePoint.{onePoint}
 use Rattle.rating.specs.SlType.{slType}
 use Rattle.rating.specs.Arrangements.{own}
@@ -39,6 +42,12 @@ pub record Conducts (x : List ℕ) (h : Conduction) : Type 0 where
 pub record IsOnePoint (j : ℕ) (x : List ℕ) : Type 0 where
   pub own-is : own x ≡ onePoint j
   pub j-most : j ≤ 2
+
+-- the case x has the arrangement that the kind names
+abbrev pub Has : List ℕ → Kind → Type 0
+Has x BothEnds = own x ≡ bothEnds
+Has x (OnePoint j) = IsOnePoint j x
+Has x SlType = own x ≡ slType
 
 -- a is an arrangement, and r holds what it asks of the case x
 pub record Asks (a : Arrangement) (x : List ℕ) (r : Rules) : Type 0 where
@@ -67,7 +76,11 @@ pub record Passes (a : Arrangement) (x : List ℕ) (p : Shared) : Type 0 where
   pub r-is : p .r ≡ R x
   pub wd-is : p .wd ≡ Wd x
 
--- the same in arrangement 3 or 4, by its j; and in 5, with RA
+-- the same of a case that has the kind's arrangement; in arrangement 3 or 4, by its j; and in 5, with RA
+
+pub record HasPassed (x : List ℕ) (kind : Kind) (p : Shared) : Type 0 where
+  pub has : Has x kind
+  pub passes : Passes (own x) x p
 
 pub record PassesOnePoint (j : ℕ) (x : List ℕ) (p : Shared) : Type 0 where
   pub passes : Passes (onePoint j) x p

@@ -20,7 +20,7 @@ use Rattle.book_laws.specs.Append.{appendAfter, appendIn}
 use Rattle.book_laws.specs.Accept.{Acceptance}
 use Rattle.book_laws.specs.Build.{allCases}
 use Rattle.book_laws.specs.Built.{builtIn}
-use Rattle.book_laws.specs.Book.{Accepted, Appended, startOf, appendOf, casesOf, build, Kept}
+use Rattle.book_laws.specs.Book.{Accepted, Appended, startOf, appendOf, acceptOf, casesOf, build, Kept}
 use Rattle.book_laws.specs.Laws.Literal.{small-book, fresh-book, literal, edges}
 use Rattle.demands.specs.Demands.{demand-1, demand-2, demand-3}
 
@@ -53,6 +53,10 @@ kept =
 
 fine : Accepted small-book 130
 fine = demand-2 .accepted small-book 130 0 (ap (λ (a : Acceptance). a .number) (literal .accepts 0))
+
+accepts : acceptOf small-book 130 7 ≡ record { number = 0; count = 1; note = 2; named = 0 }
+unfolding describeIn describeAt wrongTrailer stands numberAt
+accepts = demand-2 .accepts small-book 130 7 fine
 
 rebuilt : build (79 ∷ 75 ∷ replicate 129 7) 2 (casesOf small-book 130) ≡ record { number = 0; used = 130; bytes = small-book ++ (7 ∷ []) }
 unfolding describeIn describeAt wrongTrailer stands numberAt below

@@ -15,8 +15,10 @@ use Rattle.rating.specs.Chosen.{Chosen}
 use Rattle.rating.specs.OnePoint.{onePoint}
 use Rattle.rating.specs.Arrangements.{arrangementOf, own}
 use Rattle.rating.specs.Allowed.{Allowed}
-use Rattle.rating.specs.Rate.{rateOf}
+use Rattle.rating.specs.Rate.{rated, rateOf}
 use Rattle.rating.specs.Exact.{exactRise, permittedOf}
+use Rattle.rating.specs.Laws.Logarithms.{Promised, promised}
+use Rattle.rating.specs.Laws.Passed.{all-passed, rated-stages}
 use Rattle.rating.specs.Laws.Margin.{safe, close, nearer}
 use Rattle.rating.specs.Laws.Answers.{trefoilOnePoint, cable, answered}
 
@@ -41,6 +43,14 @@ chosen-allowed =
 
 pub answer : (rateOf cable .number ≡ 0) × (rateOf cable .rating ≡ 457106)
 answer = let is = answered .sl-type-5 in (ap (λ a. a .number) is, ap (λ a. a .rating) is)
+
+-- it passed every refusal, its answer is that of the stages, and stage 5's promises hold of both its logarithms
+
+stages : rateOf cable ≡ rated cable
+stages = rated-stages cable (answer .0)
+
+logarithms : Promised cable
+logarithms = promised cable (all-passed cable (answer .0) .fields)
 
 permitted : permittedOf cable ≡ 70000000000
 unfolding permittedOf permittedRise riseOf

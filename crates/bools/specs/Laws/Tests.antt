@@ -16,6 +16,11 @@ pub neither : (a b : Bool) → a || b ≡ false → (a ≡ false) × (b ≡ fals
 neither true b e = absurd (true≢false e)
 neither false b e = (refl, e)
 
+-- what holds of a test in either outcome, given that outcome, holds of it
+pub by-outcome : (P : Bool → Type 0) (t : Bool) → (t ≡ true → P true) → (t ≡ false → P false) → P t
+by-outcome P true if-true if-false = if-true refl
+by-outcome P false if-true if-false = if-false refl
+
 -- no test has both outcomes
 pub other-outcome : {A : Type 0} (t : Bool) → t ≡ false → t ≡ true → A
 other-outcome t f e = absurd (false≢true (sym f ∙ e))

@@ -28,5 +28,6 @@ pub mod CloseSpacing
 pub mod CloseSpacingLow
 pub mod CloseSheath
 pub mod CloseEddy
+pub mod CloseCommonSheath
 pub mod CloseScreening
 pub mod CloseInstances

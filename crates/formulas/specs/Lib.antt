@@ -10,6 +10,7 @@ pub mod Proximity
 pub mod Logarithm
 pub mod Spacing
 pub mod Sheath
+pub mod CommonSheath
 pub mod Armour
 pub mod Dielectric
 pub mod Rating

@@ -183,6 +183,17 @@ mostEddySpacing = 250000000000
 abbrev pub mostEddyInner : ℕ
 mostEddyInner = 4070000000000
 
+-- y in arrangement 6: twice 100 µΩ/m over the least B; and y2
+abbrev pub mostCommonRatio : ℕ
+mostCommonRatio = 15916000000000
+
+abbrev pub mostCommonRatioSquared : ℕ
+mostCommonRatioSquared = 253320000000000
+
+-- S in arrangement 6: each of the two terms is at most Rs, and Rs at most 100 µΩ/m; above that it is less
+abbrev pub mostCommonLoss : ℕ
+mostCommonLoss = 6000000000000
+
 -- S in any arrangement: three halves of the largest Rs
 abbrev pub mostSheathLoss : ℕ
 mostSheathLoss = 610500000000000

@@ -5,7 +5,7 @@ use native.Mathlib.Nat.{mul-pos, mul-le-mul}
 use native.Mathlib.Omega.{arith}
 use lib.Dec.{lit<, lit≤}
 use Rattle.exact.specs.Rounding.{up, down}
-use Rattle.exact.specs.Fraction.{Fraction, _over_, whole, _+F_, _*F_, reciprocal, _/F_, _≤F_, _≃F_}
+use Rattle.exact.specs.Fraction.{Fraction, _over_, whole, _+F_, _*F_, _/F_, square, _≤F_, _≃F_}
 use Rattle.exact.specs.Laws.Fraction.{closed≤, ≃F-refl, ≤F-refl}
 use Rattle.exact.specs.Error.{Within}
 use Rattle.exact.specs.Laws.Error.{
@@ -37,35 +37,22 @@ use Rattle.formulas.specs.Armour.{
 use Rattle.formulas.specs.Laws.Ranges.{In, reactance-range, reducedArmourResistance-most, unscreenedLoss-most}
 use Rattle.formulas.specs.Laws.CloseReactance.{reactance-close}
 use Rattle.formulas.specs.Laws.Bounds.{leastSheathResistance, mostResistance, leastSheathReactanceLow, mostArmourLoss}
-use Rattle.formulas.specs.Laws.CloseInverse.{tera-th, inverse-close}
-use Rattle.formulas.specs.Laws.CloseScreening.{screeningRatio-close, screening-close, screening-share-most}
+use Rattle.formulas.specs.Laws.CloseInverse.{over-reactance-close, inverse-close, inverse-most}
+use Rattle.formulas.specs.Laws.CloseScreening.{screeningRatio-close, screening-close}
 use Rattle.formulas.specs.Laws.OverT.{quotient-close}
-
-reactance*-pos : {π : Fraction} {f : ℕ} → IsPi π → In 1000 6500 f → 0 < reactance* π f .num
-unfolding reactance* piLow _*F_
-reactance*-pos {π} {f} p range =
-    let π≠0 : 0 < π .num = omega (arith, p .at-least .across, p .at-least .right) in
-    mul-pos (omega (arith, range .least)) π≠0
 
 -- The loss before the screening.
 
 pub armourRatio-close :
     {π : Fraction} {f ra : ℕ} → IsPi π → In 1000 6500 f → In leastSheathResistance mostResistance ra →
     Within 245 (whole 0) (armourRatio ra (reactance f) over tera) (armourRatio* ra (reactance* π f))
-unfolding armourRatio armourRatio* tera _+F_ _*F_ reciprocal
+unfolding armourRatio armourRatio* tera _*F_
 armourRatio-close {π} {f} {ra} pi range ra-in =
-    let b>0 : 0 < reactance f = omega (arith, reactance-range range .least) in
     let large : trillion * reactance f ≤ 205 * (554 * 10 ^ 9 * ra) = omega (arith, reactance-range range .most, ra-in .least) in
-    let rounded = tera-th 205 (within-round-down 205 (554 * 10 ^ 9 * ra) b>0 large) in
-    let exact =
-    within-scale ((554 over 1000) *F whole ra) (lit< tt)
-    (within-relative-reciprocal (reactance*-pos pi range) (reactance-close pi range))
-    in
-    let same : (1 over 10 ^ 12) *F (554 * 10 ^ 9 * ra over reactance f) ≃F (554 over 1000) *F whole ra *F reciprocal (whole (reactance f)) =
-    record { left = omega arith; right = omega arith; across = omega arith }
-    in
-    within-weaken (lit≤ tt) (closed≤ tt)
-    (within-trans (within-same (≃F-refl _ (lit< tt)) same rounded) exact)
+    let close = over-reactance-close 205 (554 * 10 ^ 9 * ra) pi range large in
+    within-same (≃F-refl _ (lit< tt))
+    (record { left = close .below .right; right = omega (arith, close .below .right); across = omega arith })
+    close
 
 pub reducedArmourResistance-close :
     {π : Fraction} {f ra : ℕ} → IsPi π → In 1000 6500 f → In leastSheathResistance mostResistance ra →
@@ -121,7 +108,7 @@ armour-close c {π} {X*} {f} {ra} {dA} {X} {rs} pi range ra-in dA>0 c≤ X≥ rs
     in
     let ratio>0 : 0 < (X* /F whole rs) .den = screeningRatio-close X≥ rs-in p .below .right in
     let both =
-    within-product (screening-share-most (X* /F whole rs) ratio>0) w≤
+    within-product (inverse-most (square (X* /F whole rs)) (mul-pos ratio>0 ratio>0)) w≤
     (unscreened-close c pi range ra-in dA>0 c≤)
     (screening-close X≥ rs-in p)
     in

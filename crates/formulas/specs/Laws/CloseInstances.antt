@@ -34,6 +34,7 @@ use Rattle.formulas.specs.Sheath.{
   eddyLoss,
   eddyLoss*,
 }
+use Rattle.formulas.specs.CommonSheath.{commonLoss, commonLoss*}
 use Rattle.formulas.specs.Armour.{
   armourRatio,
   armourRatioSquared,
@@ -52,6 +53,7 @@ use Rattle.formulas.specs.Laws.CloseProximity.{resistance-close}
 use Rattle.formulas.specs.Laws.CloseSpacing.{sheathReactance-close, sheathReactance-least, spacingLogHigh-least}
 use Rattle.formulas.specs.Laws.CloseSheath.{circulating-close, sl-close}
 use Rattle.formulas.specs.Laws.CloseEddy.{eddy-close}
+use Rattle.formulas.specs.Laws.CloseCommonSheath.{common-close}
 use Rattle.formulas.specs.Laws.CloseSpacingLow.{sheathReactanceLow-close, sheathReactanceLow-least}
 use Rattle.formulas.specs.Laws.CloseArmour.{armour-close}
 use Rattle.formulas.specs.Laws.CloseDielectric.{loss-close, dielectric-close}
@@ -186,6 +188,17 @@ w* = armourLoss* ra (reactance* π 5000) 2500 11000 X* rs
 w-close : Within 22694 (whole 1005) w* (whole w)
 w-close =
     armour-close 2500 is-pi frequency armour (lit< tt) (lit≤ tt) (sheathReactanceLow-least 5 (lit≤ tt) (lit< tt) (lit≤ tt)) sheath X-low
+
+-- the S of arrangement 6, under an aluminium sheath of less than 100 µΩ/m and under a lead sheath of more
+
+common-first :
+    Within 196 (whole 19) (commonLoss* (reactance* π 5000) 858808498030 1853 7297) (whole (commonLoss (reactance 5000) 858808498030 1853 7297))
+common-first = common-close 1853 is-pi frequency (lit≤ tt) (lit< tt) (lit≤ tt)
+
+common-second :
+    Within 196 (whole 19) (commonLoss* (reactance* π 5000) 4420859576800 1853 7377)
+    (whole (commonLoss (reactance 5000) 4420859576800 1853 7377))
+common-second = common-close 1853 is-pi frequency (lit≤ tt) (lit< tt) (lit≤ tt)
 
 -- dd and E
 

@@ -54,7 +54,3 @@ screening-close {X} {rs} {X*} X≥ rs-in p =
     let v2 = down (v * v) (10 ^ 12) in
     let exact = inverse-close 11101 v (screeningRatio-close X≥ rs-in p) in
     within-weaken (lit≤ tt) (closed≤ tt) (within-trans exact (quotient-close (10 ^ 12) {b = 10 ^ 12 + v2} (omega arith)))
-
-pub screening-share-most : (x : Fraction) → 0 < x .den → reciprocal (whole 1 +F square x) ≤F whole 1
-unfolding _+F_ _*F_ reciprocal
-screening-share-most x x>0 = record { left = omega (arith, mul-pos x>0 x>0); right = lit< tt; across = omega arith }

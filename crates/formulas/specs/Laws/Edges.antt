@@ -1,6 +1,6 @@
--- The starred values at the edges of docs/CLAIMS.md, as one theorem, and as another the edges of refusals 8 and 11 that the stars
--- leave out: where kp decides, and the largest rating. Each is computed from the definition or the table that the rating uses.
--- Assumes nothing.
+-- The starred values at the edges of docs/CLAIMS.md, as one theorem; as another the edges of refusals 8 and 11 that the stars leave out:
+-- where kp decides, and the largest rating; and as a third those of arrangement 6. Each is computed from the definition or the table that
+-- the rating uses. Assumes nothing.
 use mathlib.Core.Path.{_≡_, refl}
 use mathlib.Core.Bool.{Bool, true, false}
 use Prim.Native.Nat.{ℕ, _*_}
@@ -15,6 +15,16 @@ use Rattle.formulas.specs.Skin.{skinReactance, skinRatio, factor}
 use Rattle.formulas.specs.Proximity.{spacingRatio}
 use Rattle.formulas.specs.Logarithm.{octaves, doubled, firstPower, thirteenTerms, logLow, logHigh}
 use Rattle.formulas.specs.Sheath.{bondRatio, bondRatioSquared, circulatingLoss}
+use Rattle.formulas.specs.CommonSheath.{
+  isFirst,
+  axisRatio,
+  axisRatioSquared,
+  commonRatio,
+  commonRatioSquared,
+  firstFormula,
+  secondFormula,
+  commonLoss,
+}
 use Rattle.formulas.specs.Rating.{rating}
 use Rattle.formulas.specs.Refusals.{skinRefused, eddyRefused, dielectricRefused, currentRefused}
 
@@ -96,4 +106,41 @@ unstarred =
       gets-11 = refl;
       rating-passes-11 = refl;
       rating-gets-11 = refl;
+    }
+
+-- Arrangement 6: a core's axis in the middle of its sheath's radius, and on the sheath; each number where y is 1; and the two formulas at
+-- 100 µΩ/m, where the first still holds, and one unit above.
+pub record CommonSheathStarred : Type 0 where
+  pub b-half : axisRatio 2500 10000 ≡ 250000000000
+  pub b-least : axisRatio 100 50000 ≡ 16000000
+  pub b-most : axisRatio 3688 7376 ≡ 1000000000000
+  pub b-rounded : axisRatio 1000 3000 ≡ 444444444445
+  pub b2 : axisRatioSquared 250000000000 ≡ 62500000000
+  pub y-one : commonRatio 314159265360 (reactance 5000) ≡ 1000000000000
+  pub y-down : commonRatio 314159265359 (reactance 5000) ≡ 999999999996
+  pub y2-down : commonRatioSquared 999999999996 ≡ 999999999992
+  -- 3 Rs (1/4 × 1/2 + 1/16 × 1/5)
+  pub S-at-y-one : commonLoss (reactance 5000) 314159265360 2500 10000 ≡ 129590696961
+  pub S-at-limit : commonLoss (reactance 5000) 1000000000000 2500 10000 ≡ 71887596300
+  -- 0.8 B² × 1/4 over Rs
+  pub S-above-limit : commonLoss (reactance 5000) 1000000000001 2500 10000 ≡ 78956835210
+  -- the least S: the largest Rs, the least b and the least B
+  pub S-least : commonLoss (reactance 1000) 407000000000000 100 50000 ≡ 497
+
+pub common-sheath-starred : CommonSheathStarred
+unfolding up down tera piHigh reactance axisRatio axisRatioSquared commonRatio commonRatioSquared isFirst firstFormula secondFormula commonLoss
+common-sheath-starred =
+    record {
+      b-half = refl;
+      b-least = refl;
+      b-most = refl;
+      b-rounded = refl;
+      b2 = refl;
+      y-one = refl;
+      y-down = refl;
+      y2-down = refl;
+      S-at-y-one = refl;
+      S-at-limit = refl;
+      S-above-limit = refl;
+      S-least = refl;
     }

@@ -1,5 +1,6 @@
 -- How large the stages' numbers get within the limits of the fields: what the code of the stages needs so that each product and
 -- quotient fits. Each bound is proved from bounds on what goes in. Assumes nothing.
+use mathlib.Core.Path.{_≡_}
 use mathlib.Core.Bool.{Bool, true, false, cond}
 use Prim.Native.Nat.{ℕ, _+_, _*_, _≤_, _<_}
 use native.Mathlib.Nat.{le-trans, add-le-add, mul-le-mul, mul-le-mul-right, mul-pos}
@@ -7,6 +8,8 @@ use native.Mathlib.Omega.{arith}
 use lib.Dec.{eqb, lit<, lit≤}
 use lib.IntN.{ℤ, pos, negℤ}
 use lib.Signed.{_≤ℤ_}
+use borrow.Author.Tests.{leb-true, leb-false}
+use Rattle.bools.specs.Laws.Tests.{by-outcome}
 use Rattle.exact.specs.Rounding.{up, down}
 use Rattle.exact.specs.Laws.Rounding.{up-least, up-least-below, down-most-above}
 use Rattle.exact.specs.Trillion.{trillion}
@@ -27,6 +30,17 @@ use Rattle.formulas.specs.Sheath.{
   eddyFactor,
   eddySpacing,
   eddyLoss,
+}
+use Rattle.formulas.specs.CommonSheath.{
+  firstFormulaLimit,
+  isFirst,
+  axisRatio,
+  axisRatioSquared,
+  commonRatio,
+  commonRatioSquared,
+  firstFormula,
+  secondFormula,
+  commonLoss,
 }
 use Rattle.formulas.specs.Armour.{reducedArmourResistance, unscreenedLoss, screeningRatioSquared, screenedLoss}
 use Rattle.formulas.specs.Dielectric.{dielectricResistance, dielectricRise}
@@ -53,6 +67,9 @@ use Rattle.formulas.specs.Laws.Bounds.{
   mostEddyFactor,
   mostEddySpacing,
   mostEddyInner,
+  mostCommonRatio,
+  mostCommonRatioSquared,
+  mostCommonLoss,
   mostSheathLoss,
   mostArmourLoss,
   mostDielectricLoss,
@@ -204,21 +221,78 @@ eddyLoss-most {j} {rs} {d} {s} b j≤ rs>0 rs≤ b≤ s>0 d≤s =
     let cores≤ : 3 * j * up (rs * e') trillion ≤ 6 * 4070000000000 = mul-le-mul j3≤ inner≤ in
     up-least _ _ (lit< tt) (le-trans (mul-le-mul cores≤ (eddySpacing-most s>0 d≤s)) (lit≤ tt))
 
+-- One sheath around three cores.
+
+pub is-first : (rs : ℕ) → isFirst rs ≡ true → rs ≤ firstFormulaLimit
+unfolding isFirst
+is-first rs first = leb-true _ _ first
+
+pub is-second : (rs : ℕ) → isFirst rs ≡ false → firstFormulaLimit < rs
+unfolding isFirst
+is-second rs second = leb-false _ _ second
+
+-- where the cores' axes lie within the sheath
+pub axisRatio-most : (c : ℕ) {d : ℕ} → 0 < d → 2 * c ≤ d → axisRatio c d ≤ trillion
+unfolding axisRatio tera
+axisRatio-most c d>0 c≤ = up-least _ _ (mul-pos d>0 d>0) (omega (arith, mul-le-mul c≤ c≤))
+
+pub axisRatioSquared-most : {b : ℕ} → b ≤ trillion → axisRatioSquared b ≤ trillion
+unfolding axisRatioSquared tera
+axisRatioSquared-most b≤ = up-least _ _ (lit< tt) (mul-le-mul b≤ b≤)
+
+pub commonRatio-most : {rs B : ℕ} → rs ≤ firstFormulaLimit → leastReactance ≤ B → commonRatio rs B ≤ mostCommonRatio
+unfolding commonRatio tera
+commonRatio-most rs≤ B≥ = down-most-above _ _ (omega arith) (omega arith)
+
+pub commonRatioSquared-most : {y : ℕ} → y ≤ mostCommonRatio → commonRatioSquared y ≤ mostCommonRatioSquared
+unfolding commonRatioSquared tera
+commonRatioSquared-most y≤ = down-most-above _ _ (lit< tt) (omega (arith, mul-le-mul y≤ y≤))
+
+-- a term of the first formula
+pub commonTerm-most : {b : ℕ} (k : ℕ) → b ≤ trillion → up (b * tera) (tera + k) ≤ trillion
+unfolding tera
+commonTerm-most k b≤ = up-least _ _ (omega arith) (omega arith)
+
+pub firstFormula-most : (B : ℕ) {rs b : ℕ} → rs ≤ firstFormulaLimit → b ≤ trillion → firstFormula B rs b ≤ mostCommonLoss
+unfolding firstFormula tera
+firstFormula-most B {rs} {b} rs≤ b≤ =
+    let three≤ : 3 * rs ≤ 3 * firstFormulaLimit = omega arith in
+    let b2≤ = axisRatioSquared-most b≤ in
+    up-least _ _ (lit< tt)
+    (le-trans
+    (mul-le-mul three≤
+    (add-le-add {b = trillion} {d = trillion}
+    (up-least _ _ (omega arith) (omega (arith, b≤)))
+    (up-least _ _ (omega arith) (omega (arith, b≤, b2≤)))))
+    (lit≤ tt))
+
+pub secondFormula-most :
+    {B rs b : ℕ} → firstFormulaLimit < rs → B ≤ mostReactance → b ≤ trillion → secondFormula B rs b ≤ mostCommonLoss
+unfolding secondFormula tera
+secondFormula-most {B} {rs} rs> B≤ b≤ =
+    let square≤ : 4 * (B * B) ≤ mostCommonLoss * rs = omega (arith, mul-le-mul B≤ B≤) in
+    up-least _ _ (omega arith) (omega (arith, mul-le-mul square≤ b≤))
+
+pub commonLoss-most : (rs c : ℕ) {B d : ℕ} → B ≤ mostReactance → 0 < d → 2 * c ≤ d → commonLoss B rs c d ≤ mostCommonLoss
+unfolding commonLoss
+commonLoss-most rs c {B} {d} B≤ d>0 c≤ =
+    let b = axisRatio c d in
+    let b≤ = axisRatio-most c d>0 c≤ in
+    by-outcome (λ first. cond first (firstFormula B rs b) (secondFormula B rs b) ≤ mostCommonLoss) (isFirst rs)
+    (λ first. firstFormula-most B (is-first rs first) b≤)
+    (λ second. secondFormula-most (is-second rs second) B≤ b≤)
+
 -- The armour.
 
 pub reducedArmourResistance-most : (ra b : ℕ) → reducedArmourResistance ra b ≤ ra
 unfolding reducedArmourResistance tera
 reducedArmourResistance-most ra b = up-least _ _ (omega arith) (omega arith)
 
-pub armourSpacing-most : (c : ℕ) {dA : ℕ} → 0 < dA → 2 * c ≤ dA → up (4 * (c * c) * tera) (dA * dA) ≤ trillion
-unfolding tera
-armourSpacing-most c dA>0 c≤ = up-least _ _ (mul-pos dA>0 dA>0) (omega (arith, mul-le-mul c≤ c≤))
-
 pub unscreenedLoss-most : {ra dA : ℕ} (b c : ℕ) → ra ≤ mostResistance → 0 < dA → 2 * c ≤ dA → unscreenedLoss ra b c dA ≤ mostArmourLoss
-unfolding unscreenedLoss
+unfolding unscreenedLoss axisRatio
 unscreenedLoss-most {ra} b c ra≤ dA>0 c≤ =
     let r≤ : 123 * reducedArmourResistance ra b ≤ 50061000000000000 = omega (arith, reducedArmourResistance-most ra b) in
-    up-least _ _ (lit< tt) (le-trans (mul-le-mul r≤ (armourSpacing-most c dA>0 c≤)) (lit≤ tt))
+    up-least _ _ (lit< tt) (le-trans (mul-le-mul r≤ (axisRatio-most c dA>0 c≤)) (lit≤ tt))
 
 pub screeningRatio-most : {X rs : ℕ} → X ≤ mostSheathReactance → leastSheathResistance ≤ rs → down (X * tera) rs ≤ mostBondRatio
 unfolding tera

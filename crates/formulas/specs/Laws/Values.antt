@@ -4,6 +4,7 @@
 -- compares the two. Assumes nothing.
 use mathlib.Core.Path.{_≡_, refl}
 use mathlib.Core.List.{[], _∷_, map}
+use Prim.Native.Nat.{_+_, _*_}
 use lib.IntN.{pos, negℤ}
 use Rattle.exact.specs.Rounding.{up, down}
 use Rattle.exact.specs.Root.{root}
@@ -25,6 +26,16 @@ use Rattle.formulas.specs.Sheath.{
   eddyFactor,
   eddySpacing,
   eddyLoss,
+}
+use Rattle.formulas.specs.CommonSheath.{
+  isFirst,
+  axisRatio,
+  axisRatioSquared,
+  commonRatio,
+  commonRatioSquared,
+  firstFormula,
+  secondFormula,
+  commonLoss,
 }
 use Rattle.formulas.specs.Armour.{
   armourRatio,
@@ -77,6 +88,20 @@ pub record Recomputed : Type 0 where
   pub g-prime : eddySpacing 4000 12000 ≡ 27777777778
   pub S3 : eddyLoss 1 628318530720 11600000000000 4000 12000 ≡ 708503639
   pub S4 : eddyLoss 2 628318530720 11600000000000 4000 12000 ≡ 1417007277
+  -- stage 7 in arrangement 6: under an aluminium sheath, by the first formula, and under a lead sheath, by the second; and where they meet
+  pub rs-aluminium : resistance 68830 (coefficient 2) (pos 8147) ≡ 858808498030
+  pub b-aluminium : axisRatio 1853 7297 ≡ 257942044288
+  pub b2-aluminium : axisRatioSquared 257942044288 ≡ 66534098212
+  pub y-aluminium : commonRatio 858808498030 628318530720 ≡ 2733672352607
+  pub y2-aluminium : commonRatioSquared 2733672352607 ≡ 7472964531407
+  pub first-aluminium : up (257942044288 * tera) (tera + 7472964531407) ≡ 30442951028
+  pub second-aluminium : up (66534098212 * tera) (tera + 4 * 7472964531407) ≡ 2153774563
+  pub S-aluminium : commonLoss 628318530720 858808498030 1853 7297 ≡ 83983034837
+  pub rs-lead : resistance 355169 (coefficient 1) (pos 8118) ≡ 4420859576800
+  pub b-lead : axisRatio 1853 7377 ≡ 252377865551
+  pub S-lead : commonLoss 628318530720 4420859576800 1853 7377 ≡ 18029939377
+  pub S-meeting : commonLoss 628318530720 1000000000000 1853 7377 ≡ 72614704926
+  pub S-past-meeting : commonLoss 628318530720 1000000000001 1853 7377 ≡ 79707830163
   -- stage 8, before and after its screening
   pub y : armourRatio 2893750000000 628318530720 ≡ 2551472575801
   pub y2 : armourRatioSquared 2551472575801 ≡ 6510012305064
@@ -98,7 +123,8 @@ unfolding up down root conductorMetal tera piLow piHigh ln2Low ln2High ln2ThirdL
     skinReactance skinRatio skinRatioSquared factor skinFactor spacingRatio proximityH proximityG proximityFactor
     acResistance octaves doubled firstPower thirteenTerms logLow logHigh spacingLogHigh spacingLogLow
     sheathReactance sheathReactanceLow bondRatio bondRatioSquared circulatingLoss threeHalves slLoss eddyRatio
-    eddyRatioSquared eddyFactor eddySpacing eddyLoss armourRatio armourRatioSquared reducedArmourResistance
+    eddyRatioSquared eddyFactor eddySpacing eddyLoss axisRatio axisRatioSquared commonRatio commonRatioSquared
+    isFirst firstFormula secondFormula commonLoss armourRatio armourRatioSquared reducedArmourResistance
     unscreenedLoss screeningRatioSquared screenedLoss armourLoss dielectricLoss dielectricResistance dielectricRise
     permittedRise currentRise unitRise rating
 recomputed =
@@ -136,6 +162,19 @@ recomputed =
       g-prime = refl;
       S3 = refl;
       S4 = refl;
+      rs-aluminium = refl;
+      b-aluminium = refl;
+      b2-aluminium = refl;
+      y-aluminium = refl;
+      y2-aluminium = refl;
+      first-aluminium = refl;
+      second-aluminium = refl;
+      S-aluminium = refl;
+      rs-lead = refl;
+      b-lead = refl;
+      S-lead = refl;
+      S-meeting = refl;
+      S-past-meeting = refl;
       y = refl;
       y2 = refl;
       r = refl;

@@ -2,6 +2,7 @@
 ghost use mathlib.Core.Path.{_≡_};
 ghost use Rattle.formulas.specs.Armour.{reducedArmourResistance, unscreenedLoss, screeningRatioSquared, screenedLoss};
 ghost use Rattle.stages.specs.Laws.Ranges.{BondRatioRanges, ReducedArmourRanges, UnscreenedRanges, ScreenedRanges};
+use super::common_sheath::axis_ratio;
 use wide::ratio::mul_div_down;
 use wide::ratio::mul_div_up;
 use wide::trillion::T;
@@ -21,7 +22,7 @@ pub fn unscreened_loss(ra: u64, b: u64, c: u64, da: u64) -> u64
     requires { ⌜ UnscreenedRanges ra b c da ⌝ }
     ensures { λ r. ⌜ r ≡ unscreenedLoss ra b c da ⌝ }
 {
-    let place = mul_div_up(4 * (c * c), T, da * da);
+    let place = axis_ratio(c, da);
     mul_div_up(
         123 * reduced_armour_resistance(ra, b),
         place,

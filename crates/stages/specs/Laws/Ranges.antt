@@ -7,6 +7,7 @@ use lib.Signed.{_≤ℤ_}
 use Rattle.exact.specs.Rounding.{up}
 use Rattle.exact.specs.Trillion.{trillion}
 use Rattle.formulas.specs.Resistance.{temperatureFactor}
+use Rattle.formulas.specs.CommonSheath.{firstFormulaLimit}
 use Rattle.formulas.specs.Laws.Bounds.{
   mostCoefficient,
   mostK,
@@ -40,6 +41,7 @@ use Rattle.formulas.specs.Laws.Bounds.{
   leastInsulationLog,
   mostSpacingLog,
   mostSheathReactance,
+  mostCommonRatioSquared,
   mostSheathLoss,
   mostArmourLoss,
   mostDielectricLoss,
@@ -136,6 +138,38 @@ pub record EddyLossRanges (j b rs d s : ℕ) : Type 0 where
   pub factor : EddyFactorRanges b rs
   pub spacing : SpacingRanges d s
 
+-- an axis at c from the middle of what has the diameter d, which is a sheath or, in stage 8, the armour
+pub record AxisRanges (c d : ℕ) : Type 0 where
+  pub d>0 : 0 < d
+  pub d-most : d ≤ mostArmourDiameter
+  pub c-most : 2 * c ≤ d
+
+-- y2 in arrangement 6
+pub record CommonRatioRanges (b rs : ℕ) : Type 0 where
+  pub b-least : leastReactance ≤ b
+  pub rs-most : rs ≤ firstFormulaLimit
+
+-- b or b2 over 1 and y2 or four of it
+pub record TermRanges (part k : ℕ) : Type 0 where
+  pub part-most : part ≤ trillion
+  pub k-most : k ≤ 4 * mostCommonRatioSquared
+
+pub record FirstFormulaRanges (b rs ratio : ℕ) : Type 0 where
+  pub common : CommonRatioRanges b rs
+  pub ratio-most : ratio ≤ trillion
+
+pub record SecondFormulaRanges (b rs ratio : ℕ) : Type 0 where
+  pub b-most : b ≤ mostReactance
+  pub rs-above : firstFormulaLimit < rs
+  pub rs-most : rs ≤ mostResistance
+  pub ratio-most : ratio ≤ trillion
+
+pub record CommonLossRanges (b rs c d : ℕ) : Type 0 where
+  pub b-least : leastReactance ≤ b
+  pub b-most : b ≤ mostReactance
+  pub rs-most : rs ≤ mostResistance
+  pub axis : AxisRanges c d
+
 -- Stage 8.
 
 pub record ReducedArmourRanges (ra b : ℕ) : Type 0 where
@@ -144,9 +178,7 @@ pub record ReducedArmourRanges (ra b : ℕ) : Type 0 where
 
 pub record UnscreenedRanges (ra b c da : ℕ) : Type 0 where
   pub reduced : ReducedArmourRanges ra b
-  pub da>0 : 0 < da
-  pub da-most : da ≤ mostArmourDiameter
-  pub c-most : 2 * c ≤ da
+  pub axis : AxisRanges c da
 
 pub record ScreenedRanges (w x rs : ℕ) : Type 0 where
   pub w-most : w ≤ mostArmourLoss

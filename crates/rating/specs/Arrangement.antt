@@ -36,7 +36,7 @@ pub record Arrangement : Type 0 where
   pub geometry : List ℕ → Bool
   pub heat : List ℕ → Bool
   pub metal : List ℕ → Bool
-  -- whether refusal 9 is tried: its sheaths have eddies alone
+  -- whether refusal 9 is tried
   pub eddies : Bool
   -- whether X is one of its values, and so the logarithm of 2s/d
   pub reactive : Bool
@@ -46,10 +46,13 @@ pub record Arrangement : Type 0 where
   pub numbers : List ℕ → Numbers
   pub numbers* : List ℕ → Chosen → Numbers*
 
+-- fields 17, 18, 19 and 21 are zero
+unfoldable pub noArmour : List ℕ → Bool
+noArmour x = eqb (Field.word x 17) 0 && eqb (Field.word x 18) 0 && eqb (Field.word x 19) 0 && eqb (Field.word x 21) 0
+
 -- fields 17 to 21 are all zero
 unfoldable pub armourless : List ℕ → Bool
-armourless x =
-    eqb (Field.word x 17) 0 && eqb (Field.word x 18) 0 && eqb (Field.word x 19) 0 && eqb (Field.word x 20) 0 && eqb (Field.word x 21) 0
+armourless x = noArmour x && eqb (Field.word x 20) 0
 
 -- The numbers of a cable that carries alternating current, from its n, S and W: R is the a.c. resistance, and dd comes from the
 -- dielectric loss.

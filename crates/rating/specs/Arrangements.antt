@@ -10,6 +10,7 @@ use Rattle.rating.specs.Arrangement.{Arrangement}
 use Rattle.rating.specs.BothEnds.{bothEnds}
 use Rattle.rating.specs.OnePoint.{onePoint}
 use Rattle.rating.specs.SlType.{slType}
+use Rattle.rating.specs.CommonSheath.{commonSheath}
 
 -- any other number, which refusal 1 refuses: no case passes its tests, and it has no numbers
 unfoldable pub noArrangement : Arrangement
@@ -35,7 +36,8 @@ arrangementOf k =
     (cond (eqb k 2) bothEnds
     (cond (eqb k 3) (onePoint 1)
     (cond (eqb k 4) (onePoint 2)
-    (cond (eqb k 5) slType noArrangement))))
+    (cond (eqb k 5) slType
+    (cond (eqb k 6) commonSheath noArrangement)))))
 
 -- that of a case
 abbrev pub own : List ℕ → Arrangement

@@ -9,6 +9,7 @@ pub mod Arrangement
 pub mod BothEnds
 pub mod OnePoint
 pub mod SlType
+pub mod CommonSheath
 pub mod Arrangements
 pub mod Logarithms
 pub mod Stage10
@@ -18,6 +19,7 @@ pub mod Refused
 pub mod Passed
 pub mod Margin
 pub mod Answers
+pub mod Edges
 pub mod Steps
 pub mod Takes
 pub mod Instances

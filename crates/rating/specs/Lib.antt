@@ -7,6 +7,7 @@ pub mod Arrangement
 pub mod BothEnds
 pub mod OnePoint
 pub mod SlType
+pub mod CommonSheath
 pub mod Arrangements
 pub mod Allowed
 pub mod FieldRefusals

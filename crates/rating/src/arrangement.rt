@@ -5,6 +5,8 @@ ghost use Rattle.rating.specs.Arrangements.{own};
 ghost use Rattle.rating.specs.Laws.Steps.{Has, HasPassed, Asks, Loses};
 use super::both_ends::both_ends_losses;
 use super::both_ends::both_ends_rules;
+use super::common_sheath::common_sheath_losses;
+use super::common_sheath::common_sheath_rules;
 use super::judge::Shared;
 use super::one_point::one_point_losses;
 use super::one_point::one_point_rules;
@@ -22,6 +24,7 @@ pub enum Kind {
     BothEnds,
     OnePoint(u64),
     SlType,
+    CommonSheath,
 }
 
 // Whether a case passes what it asks beyond every arrangement, for refusals 3 to 7; and whether refusal 9 is tried.
@@ -43,15 +46,21 @@ pub struct Losses {
     pub w: u64,
 }
 
-// Fields 17 to 21 are all zero.
-pub(crate) fn armourless(x: Case) -> bool
-    ensures { λ r. ⌜ r ≡ Arrangement.armourless x ⌝ }
+// Fields 17, 18, 19 and 21 are zero.
+pub(crate) fn no_armour(x: Case) -> bool
+    ensures { λ r. ⌜ r ≡ Arrangement.noArmour x ⌝ }
 {
     (x[ARMOUR_METAL] == 0)
         & (x[ARMOUR_RESISTANCE] == 0)
         & (x[ARMOUR_TEMPERATURE] == 0)
-        & (x[AXIS_DISTANCE] == 0)
         & (x[ARMOUR_DIAMETER] == 0)
+}
+
+// Fields 17 to 21 are all zero.
+pub(crate) fn armourless(x: Case) -> bool
+    ensures { λ r. ⌜ r ≡ Arrangement.armourless x ⌝ }
+{
+    no_armour(x) & (x[AXIS_DISTANCE] == 0)
 }
 
 pub(crate) fn rules_of(x: Case, kind: Kind) -> Rules
@@ -62,6 +71,7 @@ pub(crate) fn rules_of(x: Case, kind: Kind) -> Rules
         Kind::BothEnds => both_ends_rules(x),
         Kind::OnePoint(_) => one_point_rules(x),
         Kind::SlType => sl_type_rules(x),
+        Kind::CommonSheath => common_sheath_rules(x),
     }
 }
 
@@ -73,5 +83,6 @@ pub(crate) fn losses_of(x: Case, kind: Kind, p: Shared) -> Losses
         Kind::BothEnds => both_ends_losses(x, p),
         Kind::OnePoint(j) => one_point_losses(x, j, p),
         Kind::SlType => sl_type_losses(x, p),
+        Kind::CommonSheath => common_sheath_losses(x, p),
     }
 }

@@ -3,6 +3,7 @@
 mod arrangement;
 mod both_ends;
 mod case;
+mod common_sheath;
 mod conductor;
 mod dielectric;
 mod field_refusals;

@@ -54,6 +54,7 @@ pub fn rate(x: Case) -> Answer
         3 => Kind::OnePoint(1),
         4 => Kind::OnePoint(2),
         5 => Kind::SlType,
+        6 => Kind::CommonSheath,
         _ => return refuse(x, 1),
     };
     rate_in(x, kind)

@@ -24,6 +24,16 @@ use Rattle.formulas.specs.Sheath.{
   eddySpacing,
   eddyLoss,
 }
+use Rattle.formulas.specs.CommonSheath.{
+  isFirst,
+  axisRatio,
+  axisRatioSquared,
+  commonRatio,
+  commonRatioSquared,
+  firstFormula,
+  secondFormula,
+  commonLoss,
+}
 use Rattle.formulas.specs.Armour.{
   armourRatio,
   armourRatioSquared,
@@ -39,10 +49,11 @@ use Rattle.formulas.specs.Refusals.{skinRefused, eddyRefused, dielectricRefused
 use Rattle.formulas.specs.Constants.{tera, piLow, piHigh, ln2Low, ln2High, ln2ThirdHigh}
 use Rattle.formulas.specs.Logarithm.{doublings, octaves, doubled, series, firstPower, thirteenTerms, logLow, logHigh}
 use Rattle.rating.specs.Values.{R', Rs, RA, B, zs, zp, ys, G, yp, R, X, XLow, Wd, riseOf}
-use Rattle.rating.specs.Arrangement.{armourless, alternating}
+use Rattle.rating.specs.Arrangement.{noArmour, armourless, alternating}
 use Rattle.rating.specs.BothEnds.{bothEnds}
 use Rattle.rating.specs.OnePoint.{onePoint}
 use Rattle.rating.specs.SlType.{armourLimits, slType}
+use Rattle.rating.specs.CommonSheath.{commonSheath}
 use Rattle.rating.specs.Arrangements.{arrangementOf}
 use Rattle.rating.specs.FieldRefusals.{
   arrangementRefused,
@@ -96,6 +107,18 @@ aluminium =
     5 ∷ 1 ∷ 5000 ∷ 8500 ∷ 1500 ∷ 124000 ∷ 1450 ∷ 4200 ∷ 1750 ∷ 3600 ∷ 19000 ∷ 350 ∷ 1000 ∷ 4000 ∷ 2 ∷ 1000000 ∷ 6000 ∷ 6 ∷ 250000 ∷ 5500
     ∷ 2500 ∷ 11000 ∷ 350000 ∷ 40000 ∷ 60000 ∷ 450000 ∷ []
 
+-- 6: a three-core cable of 12/20 kV under one lead sheath
+abbrev pub threeCores : List ℕ
+threeCores =
+    6 ∷ 2 ∷ 5000 ∷ 9000 ∷ 2000 ∷ 75400 ∷ 1850 ∷ 3210 ∷ 1970 ∷ 3070 ∷ 12000 ∷ 250 ∷ 400 ∷ 7377 ∷ 1 ∷ 355169 ∷ 8118 ∷ 0 ∷ 0 ∷ 0 ∷ 1853 ∷ 0
+    ∷ 406119 ∷ 0 ∷ 51159 ∷ 869665 ∷ []
+
+-- the third of that file, under an aluminium sheath, whose Rs is below 100 µΩ/m
+abbrev pub threeCoresAluminium : List ℕ
+threeCoresAluminium =
+    6 ∷ 5 ∷ 5000 ∷ 9000 ∷ 2000 ∷ 125000 ∷ 1850 ∷ 3210 ∷ 1970 ∷ 3070 ∷ 12000 ∷ 250 ∷ 400 ∷ 7297 ∷ 2 ∷ 68830 ∷ 8147 ∷ 0 ∷ 0 ∷ 0 ∷ 1853 ∷ 0
+    ∷ 406119 ∷ 0 ∷ 51444 ∷ 874605 ∷ []
+
 pub record Answered : Type 0 where
   pub both-ends-1 :
       rateOf trefoil
@@ -142,6 +165,24 @@ pub record Answered : Type 0 where
             1556758000000 ∷ 11600000000000 ∷ 2893750000000 ∷ 628318530720 ∷ 3384533249 ∷ 1130039126 ∷ 1563786096662 ∷ 466172982335
             ∷ 28056057354 ∷ 97764071631 ∷ 305721378649 ∷ 557941517 ∷ 3323443717554 ∷ [];
       }
+  pub common-sheath-6 :
+      rateOf threeCores
+      ≡ record {
+        number = 0;
+        rating = 469955;
+        sheet =
+            961425400000 ∷ 4420859576800 ∷ 0 ∷ 628318530720 ∷ 8835005445 ∷ 12722773647 ∷ 982151596387 ∷ 0 ∷ 18029939377 ∷ 0 ∷ 56650693262
+            ∷ 167999416 ∷ 3161843911640 ∷ [];
+      }
+  pub common-sheath-6-first :
+      rateOf threeCoresAluminium
+      ≡ record {
+        number = 0;
+        rating = 360383;
+        sheet =
+            1602625000000 ∷ 858808498030 ∷ 0 ∷ 628318530720 ∷ 3194063320 ∷ 4692286050 ∷ 1615263860660 ∷ 0 ∷ 83983034837 ∷ 0 ∷ 56650693262
+            ∷ 168887415 ∷ 5376747008813 ∷ [];
+      }
   pub refused-7 :
       rateOf aluminium
       ≡ record {
@@ -160,7 +201,8 @@ unfolding rated sheetOf refused loaded judged fieldRefusal arrangementRefused co
     spacingLogHigh spacingLogLow sheathReactance sheathReactanceLow bondRatio bondRatioSquared circulatingLoss threeHalves slLoss
     armourRatio armourRatioSquared reducedArmourResistance unscreenedLoss screeningRatioSquared screenedLoss armourLoss dielectricLoss
     dielectricResistance dielectricRise permittedRise currentRise unitRise rating root piLow piHigh ln2Low ln2High ln2ThirdHigh tera up
-    down armourless bothEnds onePoint eddyRatio eddyRatioSquared eddyFactor eddySpacing eddyLoss
+    down noArmour armourless bothEnds onePoint eddyRatio eddyRatioSquared eddyFactor eddySpacing eddyLoss commonSheath axisRatio
+    axisRatioSquared commonRatio commonRatioSquared isFirst firstFormula secondFormula commonLoss
 answered =
     record {
       both-ends-1 = rateOf-is trefoil;
@@ -168,5 +210,7 @@ answered =
       one-point-3 = rateOf-is trefoilOnePoint;
       one-point-4 = rateOf-is flatOnePoint;
       sl-type-5 = rateOf-is cable;
+      common-sheath-6 = rateOf-is threeCores;
+      common-sheath-6-first = rateOf-is threeCoresAluminium;
       refused-7 = rateOf-is aluminium;
     }

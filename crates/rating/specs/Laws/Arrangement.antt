@@ -38,6 +38,14 @@ pub record Lawful (a : Arrangement) : Type 0 where
   pub in-range : {x : List ℕ} → Fit a x → InRange (a .numbers x)
   pub close : {x : List ℕ} {c : Chosen} → Allowed a x c → Fit a x → Close (a .numbers* x c) (a .numbers x)
 
+-- n
+
+pub one-core : In 1 3 1
+one-core = record { least = lit≤ tt; most = lit≤ tt }
+
+pub three-cores : In 1 3 3
+three-cores = record { least = lit≤ tt; most = lit≤ tt }
+
 -- no loss at all
 pub none-lost : Within 40000 (whole 2000) (whole 0) (whole 0)
 none-lost = within-weaken (lit≤ tt) (whole-mono (lit≤ tt)) (within-refl (≤F-refl (whole 0) (lit< tt)))

@@ -12,7 +12,7 @@ use Rattle.exact.specs.Error.{Within}
 use Rattle.exact.specs.Laws.Error.{within-weaken}
 use Rattle.formulas.specs.Laws.Bounds.{mostSheathLoss}
 use Rattle.formulas.specs.Sheath.{circulatingLoss, circulatingLoss*}
-use Rattle.formulas.specs.Laws.Ranges.{In, circulatingLoss-most}
+use Rattle.formulas.specs.Laws.Ranges.{circulatingLoss-most}
 use Rattle.formulas.specs.Laws.CloseSheath.{circulating-close}
 use Rattle.fields.specs.Fields as Field
 use Rattle.rating.specs.Values.{Rs, X}
@@ -22,10 +22,7 @@ use Rattle.rating.specs.Allowed.{Allowed}
 use Rattle.rating.specs.Laws.Fit.{Fit}
 use Rattle.rating.specs.Laws.Ranges.{Rs-range, X-range, conductors-apart}
 use Rattle.rating.specs.Laws.Close.{X-close}
-use Rattle.rating.specs.Laws.Arrangement.{Lawful, none-lost, alternating-in-range, alternating-close}
-
-one : In 1 3 1
-one = record { least = lit≤ tt; most = lit≤ tt }
+use Rattle.rating.specs.Laws.Arrangement.{Lawful, one-core, none-lost, alternating-in-range, alternating-close}
 
 pub both-ends-apart : {x : List ℕ} → Fit bothEnds x → Field.sheathDiameter x ≤ Field.spacing x
 unfolding bothEnds
@@ -53,6 +50,6 @@ both-ends-lawful =
     record {
       apart = λ reactive placed. leb-true _ _ placed;
       spaced = spaced;
-      in-range = λ fit. alternating-in-range fit (spaced fit) one (S-most fit) (lit≤ tt);
-      close = λ allowed fit. alternating-close fit (spaced fit) one allowed (S-close allowed fit) none-lost;
+      in-range = λ fit. alternating-in-range fit (spaced fit) one-core (S-most fit) (lit≤ tt);
+      close = λ allowed fit. alternating-close fit (spaced fit) one-core allowed (S-close allowed fit) none-lost;
     }

@@ -11,7 +11,7 @@ use Rattle.exact.specs.Error.{Within}
 use Rattle.exact.specs.Laws.Error.{within-weaken}
 use Rattle.formulas.specs.Laws.Bounds.{mostSheathLoss}
 use Rattle.formulas.specs.Sheath.{eddyLoss, eddyLoss*}
-use Rattle.formulas.specs.Laws.Ranges.{In, eddyLoss-most}
+use Rattle.formulas.specs.Laws.Ranges.{eddyLoss-most}
 use Rattle.formulas.specs.Laws.CloseEddy.{eddy-close}
 use Rattle.fields.specs.Fields as Field
 use Rattle.rating.specs.Values.{Rs, B}
@@ -20,10 +20,7 @@ use Rattle.rating.specs.OnePoint.{onePoint}
 use Rattle.rating.specs.Allowed.{Allowed}
 use Rattle.rating.specs.Laws.Fit.{Fit}
 use Rattle.rating.specs.Laws.Ranges.{Rs-range, conductors-apart}
-use Rattle.rating.specs.Laws.Arrangement.{Lawful, none-lost, alternating-in-range, alternating-close}
-
-one : In 1 3 1
-one = record { least = lit≤ tt; most = lit≤ tt }
+use Rattle.rating.specs.Laws.Arrangement.{Lawful, one-core, none-lost, alternating-in-range, alternating-close}
 
 module _ (j : ℕ) where
   pub one-point-apart : {x : List ℕ} → Fit (onePoint j) x → Field.sheathDiameter x ≤ Field.spacing x
@@ -67,6 +64,6 @@ module _ (j : ℕ) where
         record {
           apart = λ reactive placed. leb-true _ _ placed;
           spaced = spaced;
-          in-range = λ fit. alternating-in-range fit (spaced fit) one (S-most fit) (lit≤ tt);
-          close = λ allowed fit. alternating-close fit (spaced fit) one allowed (S-close allowed fit) none-lost;
+          in-range = λ fit. alternating-in-range fit (spaced fit) one-core (S-most fit) (lit≤ tt);
+          close = λ allowed fit. alternating-close fit (spaced fit) one-core allowed (S-close allowed fit) none-lost;
         }

@@ -28,7 +28,7 @@ use Rattle.rating.specs.Laws.Sound.{InZ, in-range, in-rangeZ}
 use Rattle.rating.specs.Laws.Fit.{Fit}
 use Rattle.rating.specs.Laws.Ranges.{Rs-range, X-range, XLow-range, conductors-apart}
 use Rattle.rating.specs.Laws.Close.{X-close, XLow-close}
-use Rattle.rating.specs.Laws.Arrangement.{Lawful, alternating-in-range, alternating-close}
+use Rattle.rating.specs.Laws.Arrangement.{Lawful, three-cores, alternating-in-range, alternating-close}
 
 pub record Armoured (x : List ℕ) : Type 0 where
   pub metal : In 1 6 (Field.armourMetal x)
@@ -56,9 +56,6 @@ armoured {x} fit =
       distance = leb-true _ _ (places .1);
       apart = leb-true _ _ (places .0);
     }
-
-three : In 1 3 3
-three = record { least = lit≤ tt; most = lit≤ tt }
 
 module _ {x : List ℕ} (fit : Fit slType x) where
   known : Armoured x
@@ -108,6 +105,6 @@ sl-type-lawful =
       apart = λ {x} reactive placed. leb-true _ _ (both (leb (Field.sheathDiameter x) (Field.spacing x)) _ placed .0);
       spaced = spaced;
       in-range =
-          λ {x} fit. alternating-in-range fit (spaced fit) three (Law.slLoss-most (X x) (Rs-range (fit .sound) .most)) (W-most fit);
-      close = λ allowed fit. alternating-close fit (spaced fit) three allowed (S-close fit allowed) (W-close fit allowed);
+          λ {x} fit. alternating-in-range fit (spaced fit) three-cores (Law.slLoss-most (X x) (Rs-range (fit .sound) .most)) (W-most fit);
+      close = λ allowed fit. alternating-close fit (spaced fit) three-cores allowed (S-close fit allowed) (W-close fit allowed);
     }

@@ -6,7 +6,7 @@ use mathlib.Core.List.{List}
 use Prim.Native.Nat.{ℕ, _*_, _≤_}
 use lib.IntN.{ℤ, pos, negℤ}
 use Rattle.rating.specs.declared.arrangement.Kind.{Kind}
-use Rattle.rating.specs.declared.arrangement.Kind.the-variants.{BothEnds, OnePoint, SlType}
+use Rattle.rating.specs.declared.arrangement.Kind.the-variants.{BothEnds, OnePoint, SlType, CommonSheath}
 use Rattle.rating.specs.declared.arrangement.Rules.{Rules}
 use Rattle.rating.specs.declared.arrangement.Losses.{Losses}
 use Rattle.rating.specs.declared.conductor.Conduction.{Conduction}
@@ -19,6 +19,7 @@ use Rattle.rating.specs.Arrangement.{Arrangement, alternating}
 use Rattle.rating.specs.BothEnds.{bothEnds}
 use Rattle.rating.specs.OnePoint.{onePoint}
 use Rattle.rating.specs.SlType.{slType}
+use Rattle.rating.specs.CommonSheath.{commonSheath}
 use Rattle.rating.specs.Arrangements.{own}
 use Rattle.rating.specs.FieldRefusals.{fieldRefusal}
 use Rattle.rating.specs.Stage10.{numbersOf, E}
@@ -48,6 +49,7 @@ abbrev pub Has : List ℕ → Kind → Type 0
 Has x BothEnds = own x ≡ bothEnds
 Has x (OnePoint j) = IsOnePoint j x
 Has x SlType = own x ≡ slType
+Has x CommonSheath = own x ≡ commonSheath
 
 -- a is an arrangement, and r holds what it asks of the case x
 pub record Asks (a : Arrangement) (x : List ℕ) (r : Rules) : Type 0 where

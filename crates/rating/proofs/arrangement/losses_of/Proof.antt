@@ -28,6 +28,11 @@ losses-of-spec =
     (λ c κs.
     let start = c .before .before in
     passes (has start (c .enum-told2 .given .1)) (start .pre .passes))
+    (λ c. search needs)
+    (λ c κs.
+    let start = c .before .before in
+    passes (has start (c .enum-told3 .given .1)) (start .pre .passes))
     (λ c. loses (has (c .before .before .before) (c .before .enum-told .given .1)) (c .both-ends-losses .ensures))
     (λ c. loses (has (c .before .before .before .before) (c .before .before .kind .given .1) .own-is) (c .one-point-losses .ensures))
-    (λ c. loses (has (c .before .before .before) (c .before .enum-told2 .given .1)) (c .sl-type-losses .ensures)))
+    (λ c. loses (has (c .before .before .before) (c .before .enum-told2 .given .1)) (c .sl-type-losses .ensures))
+    (λ c. loses (has (c .before .before .before) (c .before .enum-told3 .given .1)) (c .common-sheath-losses .ensures)))

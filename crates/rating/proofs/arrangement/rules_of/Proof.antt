@@ -16,6 +16,8 @@ rules-of-spec =
     (λ c κs. search needs)
     (λ c. search needs)
     (λ c κs. search needs)
+    (λ c. search needs)
+    (λ c κs. search needs)
     (λ c.
     let start = c .before .before .before in
     asks (subst (Has (start .args .x)) (c .before .enum-told .given .1) (start .pre)) (c .both-ends-rules .ensures))
@@ -24,4 +26,7 @@ rules-of-spec =
     asks (subst (Has (start .args .x)) (c .before .enum-told2 .given .1) (start .pre) .own-is) (c .one-point-rules .ensures _))
     (λ c.
     let start = c .before .before .before in
-    asks (subst (Has (start .args .x)) (c .before .enum-told3 .given .1) (start .pre)) (c .sl-type-rules .ensures)))
+    asks (subst (Has (start .args .x)) (c .before .enum-told3 .given .1) (start .pre)) (c .sl-type-rules .ensures))
+    (λ c.
+    let start = c .before .before .before in
+    asks (subst (Has (start .args .x)) (c .before .enum-told4 .given .1) (start .pre)) (c .common-sheath-rules .ensures)))

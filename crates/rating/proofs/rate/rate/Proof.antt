@@ -29,7 +29,8 @@ has c =
     (⊎-elim (λ w. picked (w .1) (ap arrangementOf (w .0 .keys2)))
     (⊎-elim (λ w. picked (w .1) record { own-is = ap arrangementOf (w .0 .keys3); j-most = lit≤ tt })
     (⊎-elim (λ w. picked (w .1) record { own-is = ap arrangementOf (w .0 .keys4); j-most = lit≤ tt })
-    (λ w. picked (w .1) (ap arrangementOf (w .0 .keys5))))))
+    (⊎-elim (λ w. picked (w .1) (ap arrangementOf (w .0 .keys5)))
+    (λ w. picked (w .1) (ap arrangementOf (w .0 .keys6)))))))
     (c .match .came)
   where
     picked : {kind : Kind} → c .match .kind ≡ kind → Has (c .before .args .t1) kind → Has (c .before .args .t1) (c .match .kind)
@@ -42,7 +43,8 @@ rate-spec =
     (λ c. search needs)
     (λ c κs.
     let other = c .match .rest in
-    other-refused _ (other-is _ (other .0 .0 .0 .0 .1) (other .0 .0 .0 .1) (other .0 .0 .1) (other .0 .1) (other .1)))
+    other-refused _
+    (other-is _ (other .0 .0 .0 .0 .0 .1) (other .0 .0 .0 .0 .1) (other .0 .0 .0 .1) (other .0 .0 .1) (other .0 .1) (other .1)))
     (λ c. search needs)
     (λ c κs. has c)
     (λ c. c .rate-in .ensures))

@@ -37,9 +37,12 @@ unscreened-loss-requires c κs =
             ra-most = omega (arith, start .pre .ra-is, RA-range fit);
             b-least = omega (arith, start .pre .passes .b-is, B-range (fit .sound));
           };
-      da>0 = omega (arith, c .number2 .ensures .same, known .diameter);
-      da-most = omega (arith, c .number2 .ensures .same, known .diameter);
-      c-most = omega (arith, c .number2 .ensures .same, c .before .number .ensures .same, known .distance);
+      axis =
+          record {
+            d>0 = omega (arith, c .number2 .ensures .same, known .diameter);
+            d-most = omega (arith, c .number2 .ensures .same, known .diameter);
+            c-most = omega (arith, c .number2 .ensures .same, c .before .number .ensures .same, known .distance);
+          };
     }
 
 sheath-reactance-low-of-requires : tie.Need-sheath-reactance-low-of-requires

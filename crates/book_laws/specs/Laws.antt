@@ -18,3 +18,4 @@ pub mod Margin
 pub mod Demands
 pub mod Literal
 pub mod Instances
+pub mod CommonSheath

@@ -1,7 +1,7 @@
-// The stages of document 01 put together for one case, without any refusal: so
-// each refusal's test can be asked by itself, also where another holds too.
+// The stages put together for one case, without any refusal: so each refusal's
+// test can be asked by itself, also where another holds too.
 
-use crate::rating::{armoured, value, Words};
+use crate::rating::{armoured, three_cores, value, Words};
 use crate::stages::{self, Insulation, Thermal};
 use crate::tables;
 
@@ -51,7 +51,7 @@ impl Cable<'_> {
             t2: self.field(23),
             t3: self.field(24),
             t4: self.field(25),
-            cores: if armoured(self.words) { 3 } else { 1 },
+            cores: if three_cores(self.words) { 3 } else { 1 },
         }
     }
 
@@ -82,7 +82,7 @@ impl Cable<'_> {
         matches!(self.words[0], 3 | 4)
     }
 
-    /// X and S. X is 0 where the sheaths are bonded at one point.
+    /// X and S. X is 0 where no current circulates in the sheaths.
     pub fn sheath(&self) -> (u128, u128) {
         match self.words[0] {
             3 => (0, self.eddy_loss(1)),
@@ -91,6 +91,7 @@ impl Cable<'_> {
                 let (x, s) = self.circulating_loss();
                 (x, stages::three_halves(s))
             }
+            6 => (0, self.common_sheath_loss()),
             _ => self.circulating_loss(),
         }
     }
@@ -108,6 +109,11 @@ impl Cable<'_> {
         let e_prime = stages::eddy_share(stages::eddy_ratio_squared(m));
         let g_prime = stages::sheath_ratio_squared(self.field(13), self.field(7));
         stages::eddy_loss(trefoils, self.rs, e_prime, g_prime)
+    }
+
+    fn common_sheath_loss(&self) -> u128 {
+        let b = stages::axis_ratio_squared(self.field(20), self.field(13));
+        stages::common_sheath_loss(self.rs, self.b_high, b)
     }
 
     /// W, which only the SL cable has.

@@ -5,14 +5,20 @@
 use crate::dice::Dice;
 use crate::rating::{holds, limits, rate, Rated, Words};
 use crate::sample_cables::with;
+use crate::stages::{temperature_factor, LARGEST_RS_OF_SUM};
+use crate::tables::metal_coefficient;
 use crate::turning::first;
 
-/// Fields 17 to 21 of an SL cable, past every refusal of them.
-fn sound_armour(dice: &mut Dice, theta_c: i64) -> [i64; 5] {
+/// The 26 fields by their values, before they are written as words.
+type Values = [i64; 26];
+
+/// Puts an SL cable's armour, past every refusal of it.
+fn put_armour(case: &mut Values, dice: &mut Dice) {
     let resistance = dice.between(1000, 20_000_000);
-    let theta = dice.between(-4000, theta_c);
+    let theta = dice.between(-4000, case[3]);
     let diameter = dice.between(200, 50000);
-    [6, resistance, theta, dice.between(100, diameter / 2), diameter]
+    let c = dice.between(100, diameter / 2);
+    case[17..=21].copy_from_slice(&[6, resistance, theta, c, diameter]);
 }
 
 /// dc, s, ds, Di and d, past the refusal of geometry.
@@ -23,13 +29,46 @@ fn sound_dimensions(dice: &mut Dice) -> [i64; 5] {
     [dice.between(100, ds.min(10000)), dice.between(d, 1_000_000), ds, di, d]
 }
 
-/// A case within every limit and past refusals 1 to 7, of any arrangement.
-pub fn sound_case(dice: &mut Dice) -> Words {
-    let arrangement = dice.between(1, 5);
+/// The resistance of a common sheath that is to have this factor of its
+/// temperature: of every order of magnitude, so that both formulas of its loss
+/// are used, and often the last that takes the first of them or one beside it.
+fn common_sheath_resistance(dice: &mut Dice, factor: i64) -> i64 {
+    let last = LARGEST_RS_OF_SUM as i64 / factor;
+    match dice.roll() % 4 {
+        0 => last - 1 + dice.roll() as i64 % 3,
+        _ => (dice.between(1000, 20_000_000) >> (dice.roll() % 10)).max(1000),
+    }
+}
+
+/// Puts one sheath round three cores: its resistance; its d, at least 200 so that
+/// there is a c; and s, which may be smaller than d but would hardly ever be so
+/// if all of its limits were open to it.
+fn put_common_sheath(case: &mut Values, dice: &mut Dice) {
+    let (dc, di) = (case[6], case[9]);
+    let factor = temperature_factor(metal_coefficient(case[14] as u32), case[16]);
+    case[15] = common_sheath_resistance(dice, factor);
+    let d = dice.between(di.max(200), 50000);
+    let widest = if dice.roll().is_multiple_of(4) { 1_000_000 } else { d };
+    case[7] = dice.between(dc, widest);
+    case[13] = d;
+    case[20] = dice.between(100, d / 2);
+}
+
+/// What only the three-core arrangements have, or have otherwise.
+fn put_three_cores(case: &mut Values, dice: &mut Dice) {
+    match case[0] {
+        5 => put_armour(case, dice),
+        6 => put_common_sheath(case, dice),
+        _ => {}
+    }
+}
+
+/// A case of an arrangement, within every limit and past refusals 1 to 7.
+fn sound_case_of(arrangement: i64, dice: &mut Dice) -> Words {
     let theta_c = dice.between(4000, 25000);
     let ambient = dice.between(-4000, (theta_c - 500).min(6000));
     let [dc, s, ds, di, d] = sound_dimensions(dice);
-    let sheath_metal = if arrangement >= 3 { 1 } else { dice.between(1, 6) };
+    let sheath_metal = if matches!(arrangement, 3..=5) { 1 } else { dice.between(1, 6) };
     let mut case = [
         arrangement,
         dice.between(1, 8),
@@ -58,10 +97,14 @@ pub fn sound_case(dice: &mut Dice) -> Words {
         dice.between(0, 10_000_000),
         dice.between(10000, 20_000_000),
     ];
-    if arrangement == 5 {
-        case[17..=21].copy_from_slice(&sound_armour(dice, theta_c));
-    }
+    put_three_cores(&mut case, dice);
     case.map(|value| value as u32)
+}
+
+/// A case within every limit and past refusals 1 to 7, of any arrangement.
+pub fn sound_case(dice: &mut Dice) -> Words {
+    let arrangement = dice.between(1, 6);
+    sound_case_of(arrangement, dice)
 }
 
 /// Replaces some fields, most of them by words far outside their limits.
@@ -100,11 +143,12 @@ pub fn mixed_case(dice: &mut Dice) -> Words {
     case
 }
 
-/// A rated case and its rating. Voltages are drawn from every order of
-/// magnitude, since most cases at a high one are refused for the dielectric.
-pub fn rated_case(dice: &mut Dice) -> (Words, Rated) {
+/// The first of some sound cases that is rated, and its rating. Voltages are
+/// brought to every order of magnitude, since most cases at a high one are
+/// refused for the dielectric.
+fn first_rated(dice: &mut Dice, sound: impl Fn(&mut Dice) -> Words) -> (Words, Rated) {
     loop {
-        let mut case = sound_case(dice);
+        let mut case = sound(dice);
         case[10] >>= dice.roll() % 20;
         // The lowest thermal resistances make the largest currents.
         if dice.roll().is_multiple_of(4) {
@@ -117,13 +161,23 @@ pub fn rated_case(dice: &mut Dice) -> (Words, Rated) {
     }
 }
 
+/// A rated case of any arrangement, and its rating.
+pub fn rated_case(dice: &mut Dice) -> (Words, Rated) {
+    first_rated(dice, sound_case)
+}
+
+/// A rated case of one arrangement, 1 to 6, and its rating.
+pub fn rated_case_of(arrangement: i64, dice: &mut Dice) -> (Words, Rated) {
+    first_rated(dice, |dice| sound_case_of(arrangement, dice))
+}
+
 /// A sound case with one field at one of its limits or next to it, on either
 /// side; the arrangement and the conductor code have limits too.
 pub fn near_limit(dice: &mut Dice) -> Words {
     let mut case = sound_case(dice);
     let field = dice.roll() as usize % case.len();
     let (low, high) = limits(field);
-    let limit = if dice.roll() % 2 == 0 { low } else { high };
+    let limit = if dice.roll().is_multiple_of(2) { low } else { high };
     case[field] = (limit + dice.roll() as i64 % 3 - 1) as u32;
     case
 }

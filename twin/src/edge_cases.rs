@@ -4,6 +4,7 @@
 // where drawn cases hardly ever come so near.
 
 mod codes;
+pub mod common_sheath;
 mod current;
 mod dielectric;
 mod eddy;
@@ -38,6 +39,8 @@ pub fn groups() -> Vec<Group> {
         relations::heat(),
         skin::skin(),
         eddy::eddy(),
+        common_sheath::formulas(),
+        common_sheath::roundings(),
         dielectric::dielectric(),
         current::current(),
         pairs::pairs(),

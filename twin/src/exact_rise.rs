@@ -1,10 +1,10 @@
-// The exact rise of a rated case: document 01's stages with the rounding
+// The exact rise of a rated case: the documents' stages with the rounding
 // erased, in fractions, for chosen fractions in place of pi, ln 2 and the
 // logarithms. Ohms are in 10^-16 ohm/m; ratios are themselves, not parts of T.
 
 use crate::ends::Chosen;
 use crate::fraction::Fraction;
-use crate::rating::{value, Words};
+use crate::rating::{armoured, three_cores, value, Words};
 use crate::stages;
 use crate::tables;
 
@@ -55,7 +55,7 @@ impl Cable<'_> {
     }
 
     fn cores(&self) -> Fraction {
-        Fraction::whole(if self.words[0] == 5 { 3 } else { 1 })
+        Fraction::whole(if three_cores(self.words) { 3 } else { 1 })
     }
 
     // Stage 1, which rounds nothing.
@@ -112,11 +112,12 @@ impl Cable<'_> {
 
     // Stages 5 to 7.
 
+    /// L of arrangements 1, 2 and 5; only 2 adds a third of ln 2.
     fn spacing_log(&self) -> Fraction {
-        let log = &self.chosen.spacing_log;
-        match self.words[0] {
-            2 => log.plus(&self.chosen.ln_2.over(&Fraction::whole(3))),
-            _ => log.clone(),
+        let log = self.chosen.spacing_log.as_ref().expect("currents circulate");
+        match &self.chosen.ln_2 {
+            Some(ln_2) => log.plus(&ln_2.over(&Fraction::whole(3))),
+            None => log.clone(),
         }
     }
 
@@ -140,11 +141,28 @@ impl Cable<'_> {
         leading.times(&share(&m.squared())).times(&ratio.squared())
     }
 
+    /// 3 Rs (b/(1 + y^2) + b^2/(1 + 4 y^2)), b = (2c/d)^2, y = 2Rs/B, up to 100
+    /// micro-ohm/m; above that 4 B^2 b/(5 Rs). Rs has no error that could blur
+    /// which of the two it is.
+    fn common_sheath_loss(&self) -> Fraction {
+        let [one, two, three, four, five] = [1, 2, 3, 4, 5].map(Fraction::whole);
+        let (rs, unit) = (self.sheath_resistance(), self.reactance_unit());
+        let b = self.field(20).times(&two).over(&self.field(13)).squared();
+        if rs > Fraction::whole(stages::LARGEST_RS_OF_SUM) {
+            return unit.squared().times(&four).times(&b).over(&rs.times(&five));
+        }
+        let y2 = rs.times(&two).over(&unit).squared();
+        let first = b.over(&one.plus(&y2));
+        let second = b.squared().over(&one.plus(&y2.times(&four)));
+        rs.times(&three).times(&first.plus(&second))
+    }
+
     fn sheath_loss(&self) -> Fraction {
         match self.words[0] {
             3 => self.eddy_loss(1),
             4 => self.eddy_loss(2),
             5 => self.circulating_loss().times(&Fraction::new(3, 2)),
+            6 => self.common_sheath_loss(),
             _ => self.circulating_loss(),
         }
     }
@@ -153,7 +171,7 @@ impl Cable<'_> {
 
     /// 1.23 RA/(1 + y^2) (2c/dA)^2/(1 + v^2), y = 0.554 RA/B.
     fn armour_loss(&self) -> Fraction {
-        if self.words[0] != 5 {
+        if !armoured(self.words) {
             return Fraction::whole(0);
         }
         let one = Fraction::whole(1);

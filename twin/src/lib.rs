@@ -1,6 +1,6 @@
 // The twin: a second, independent working of the cable rating and the book of
-// document 01, written from the document alone so that another implementation
-// can be compared with it, number for number.
+// document 01 with document 02's request A1, written from the documents alone
+// so that another implementation can be compared with it, number for number.
 
 pub mod big;
 pub mod book;

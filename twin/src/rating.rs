@@ -17,7 +17,6 @@ pub struct Rated {
 /// The 26 fields of a case, as they are written.
 pub type Words = [u32; 26];
 
-const ARMOUR_FIELDS: std::ops::RangeInclusive<usize> = 17..=21;
 /// The largest z that passes refusal 8, and the largest rating that passes 11.
 pub const SKIN_LIMIT: u128 = 7_840_000_000_000;
 pub const CURRENT_LIMIT: u128 = 5_000_000;
@@ -53,7 +52,7 @@ const LIMITS: [(i64, i64); 24] = [
 /// The limits of any field: those of refusals 1 and 2, and of 3.
 pub fn limits(field: usize) -> (i64, i64) {
     match field {
-        0 => (1, 5),
+        0 => (1, 6),
         1 => (1, 8),
         _ => LIMITS[field - 2],
     }
@@ -72,11 +71,32 @@ pub fn armoured(case: &Words) -> bool {
     case[0] == 5
 }
 
+/// The SL cable, and the one with a common sheath.
+pub fn three_cores(case: &Words) -> bool {
+    matches!(case[0], 5 | 6)
+}
+
+/// Whether currents circulate in the sheaths, by X and the logarithm of 2s/d. The
+/// other arrangements have eddies only, and no use for either.
+pub fn circulating(case: &Words) -> bool {
+    matches!(case[0], 1 | 2 | 5)
+}
+
+/// Whether the case's arrangement has a field: the armour's are the SL cable's,
+/// and c both three-core cables'.
+fn has_field(case: &Words, field: usize) -> bool {
+    match field {
+        17..=19 | 21 => armoured(case),
+        20 => three_cores(case),
+        _ => true,
+    }
+}
+
 // Refusals 1 to 7. Each looks at 32-bit values held in i64 and multiplies by
 // 105 at most, so none can overflow whatever the words are.
 
 fn arrangement_wrong(case: &Words) -> bool {
-    !(1..=5).contains(&case[0])
+    !(1..=6).contains(&case[0])
 }
 
 fn conductor_wrong(case: &Words) -> bool {
@@ -85,20 +105,25 @@ fn conductor_wrong(case: &Words) -> bool {
 
 fn limit_passed(case: &Words) -> bool {
     (2..).zip(LIMITS).any(|(field, (low, high))| {
-        let counts = armoured(case) || !ARMOUR_FIELDS.contains(&field);
-        counts && !(low..=high).contains(&value(case, field))
+        has_field(case, field) && !(low..=high).contains(&value(case, field))
     })
 }
 
-fn armour_stray(case: &Words) -> bool {
-    !armoured(case) && ARMOUR_FIELDS.into_iter().any(|field| case[field] != 0)
+fn field_stray(case: &Words) -> bool {
+    (0..).zip(case).any(|(field, &word)| !has_field(case, field) && word != 0)
 }
 
 fn geometry_wrong(case: &Words) -> bool {
     let (dc, s, ds, di) = (value(case, 6), value(case, 7), value(case, 8), value(case, 9));
-    let d = value(case, 13);
-    let core_wrong = dc > ds || 100 * di < 105 * ds || di > d || d > s;
-    core_wrong || (armoured(case) && 2 * value(case, 20) > value(case, 21))
+    let (d, c, d_armour) = (value(case, 13), value(case, 20), value(case, 21));
+    let core_wrong = dc > ds || 100 * di < 105 * ds || di > d;
+    let place_wrong = match case[0] {
+        5 => d > s || 2 * c > d_armour,
+        // One sheath goes round all three cores, so s may be smaller than d.
+        6 => dc > s || 2 * c > d,
+        _ => d > s,
+    };
+    core_wrong || place_wrong
 }
 
 fn heat_wrong(case: &Words) -> bool {
@@ -117,7 +142,7 @@ const EARLY_REFUSALS: [fn(&Words) -> bool; 7] = [
     arrangement_wrong,
     conductor_wrong,
     limit_passed,
-    armour_stray,
+    field_stray,
     geometry_wrong,
     heat_wrong,
     metal_wrong,

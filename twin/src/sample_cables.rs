@@ -1,5 +1,5 @@
-// One real-looking cable of each arrangement, which the edge cases and the tests
-// alter.
+// Real-looking cables, which the edge cases and the tests alter: one of each
+// arrangement, and of the last one for each of its formulas.
 
 use crate::rating::Words;
 
@@ -33,7 +33,31 @@ pub const SL_TYPE: Words = [
     6000, 6, 250_000, 5500, 2500, 11000, 350_000, 40_000, 60_000, 450_000,
 ];
 
-pub const ALL: [Words; 5] = [TREFOIL, FLAT, TREFOIL_SINGLE_POINT, FLAT_SINGLE_POINT, SL_TYPE];
+/// 240 mm2 copper of 12/20 kV, three cores under one lead sheath, whose Rs is
+/// above 100 micro-ohm/m.
+pub const COMMON_SHEATH: Words = [
+    6, 2, 5000, 9000, 2000, 75400, 1850, 3210, 1970, 3070, 12000, 250, 400, 7377, 1, 355_169, 8118,
+    0, 0, 0, 1853, 0, 406_119, 0, 51159, 869_665,
+];
+
+/// 240 mm2 aluminium of 12/20 kV, three cores under one aluminium sheath, whose
+/// Rs is below 100 micro-ohm/m.
+pub const COMMON_ALUMINIUM_SHEATH: Words = [
+    6, 5, 5000, 9000, 2000, 125_000, 1850, 3210, 1970, 3070, 12000, 250, 400, 7297, 2, 68830, 8147,
+    0, 0, 0, 1853, 0, 406_119, 0, 51444, 874_605,
+];
+
+/// All by rising arrangement: the first four are single-core, and the last two
+/// have a common sheath.
+pub const ALL: [Words; 7] = [
+    TREFOIL,
+    FLAT,
+    TREFOIL_SINGLE_POINT,
+    FLAT_SINGLE_POINT,
+    SL_TYPE,
+    COMMON_SHEATH,
+    COMMON_ALUMINIUM_SHEATH,
+];
 
 /// The case with some fields set anew, in order: a later change overrides.
 pub fn with(case: &Words, changes: &[(usize, u32)]) -> Words {

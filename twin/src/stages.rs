@@ -1,6 +1,7 @@
-// Stages 1 to 10 of document 01, one function for each quantity it names.
-// Ohms are in 10^-16 ohm/m, pure numbers in parts of T = 10^12, temperatures
-// in hundredths of a degree. With the fields' limits every product fits u128.
+// Stages 1 to 10 of document 01 and the common sheath's of document 02, one
+// function for each quantity they name. Ohms are in 10^-16 ohm/m, pure numbers in
+// parts of T = 10^12, temperatures in hundredths of a degree. With the fields'
+// limits every product fits u128.
 
 use crate::whole::{down, square_root, up};
 
@@ -211,6 +212,65 @@ pub fn eddy_loss(trefoils: u128, rs: u128, e_prime: u128, g_prime: u128) -> u128
     up(3 * trefoils * up(rs * e_prime, T) * g_prime, T)
 }
 
+// Stage 7 of the common sheath (arrangement 6): the eddy loss of 2.3.8.
+
+/// The largest Rs, 100 micro-ohm/m, at which the sum of two terms is taken.
+pub const LARGEST_RS_OF_SUM: u128 = 1_000_000_000_000;
+
+/// b = (2c/d)^2, d being the mean diameter of the sheath or of the armour. It is
+/// at most T, as 2c is at most d.
+pub fn axis_ratio_squared(c: u128, d: u128) -> u128 {
+    up(4 * c * c * T, d * d)
+}
+
+/// b2 = b squared.
+pub fn axis_ratio_fourth(b: u128) -> u128 {
+    up(b * b, T)
+}
+
+/// y = Rs 10^7/omega = 2 Rs/B. Rounded down, since a smaller y makes a larger
+/// loss.
+pub fn common_sheath_ratio(rs: u128, b_high: u128) -> u128 {
+    down(2 * rs * T, b_high)
+}
+
+/// y2 = y squared. Rs is at most T here and B above 10^11, so y is below 2 x 10^13.
+pub fn common_sheath_ratio_squared(y: u128) -> u128 {
+    down(y * y, T)
+}
+
+/// The sum's first term, b/(1 + y2).
+pub fn common_sheath_first_term(b: u128, y2: u128) -> u128 {
+    up(b * T, T + y2)
+}
+
+/// The sum's second term, b2/(1 + 4 y2).
+pub fn common_sheath_second_term(b2: u128, y2: u128) -> u128 {
+    up(b2 * T, T + 4 * y2)
+}
+
+/// S up to the largest Rs of the sum.
+pub fn common_sheath_loss_by_sum(rs: u128, first: u128, second: u128) -> u128 {
+    up(3 * rs * (first + second), T)
+}
+
+/// S above it: 3.2 omega^2 10^-14/Rs b, and B is twice omega 10^-7. B is below
+/// 10^12 and b at most T, so the numerator is below 4 x 10^36.
+pub fn common_sheath_loss_beyond(rs: u128, b_high: u128, b: u128) -> u128 {
+    up(4 * b_high * b_high * b, 5 * rs * T)
+}
+
+/// S by the formula that Rs asks for.
+pub fn common_sheath_loss(rs: u128, b_high: u128, b: u128) -> u128 {
+    if rs > LARGEST_RS_OF_SUM {
+        return common_sheath_loss_beyond(rs, b_high, b);
+    }
+    let y2 = common_sheath_ratio_squared(common_sheath_ratio(rs, b_high));
+    let first = common_sheath_first_term(b, y2);
+    let second = common_sheath_second_term(axis_ratio_fourth(b), y2);
+    common_sheath_loss_by_sum(rs, first, second)
+}
+
 // Stage 8: the armour's loss, as ohms.
 
 /// y = 2.77 RA 10^6 / omega = 0.554 RA/B. Rounded down, since a smaller y
@@ -231,9 +291,8 @@ pub fn armour_reduced_resistance(ra: u128, y2: u128) -> u128 {
 
 /// W before the screening: 1.23 r (2c/dA)^2.
 pub fn armour_loss_unscreened(r: u128, c: u128, armour_diameter: u128) -> u128 {
-    let position = up(4 * c * c * T, armour_diameter * armour_diameter);
-    // r is below 5 x 10^14 and the position at most T: the product is below 10^29.
-    up(123 * r * position, 100 * T)
+    // r is below 5 x 10^14 and the ratio at most T: the product is below 10^29.
+    up(123 * r * axis_ratio_squared(c, armour_diameter), 100 * T)
 }
 
 /// v for the screening: rounded down, since less screening makes a larger loss.

@@ -144,11 +144,27 @@ impl Cable {
         self.rs / self.ac_resistance() * lambda0
     }
 
+    /// 2.3.8 for round conductors: one formula up to 100 micro-ohm/m, another
+    /// above. A case's Rs is a whole number of 10^-16 ohm/m, so half of one more
+    /// keeps a float's error from taking the wrong formula.
+    fn lambda1_common_sheath(&self) -> f64 {
+        let (r, rs) = (self.ac_resistance(), self.rs);
+        let axes = 2.0 * self.c / self.d;
+        if rs > 100e-6 + 0.5e-16 {
+            return 3.2 * self.omega().powi(2) / (r * rs) * axes.powi(2) * 1e-14;
+        }
+        let ratio = rs / self.omega() * 1e7;
+        let first = axes.powi(2) / (1.0 + ratio.powi(2));
+        let second = axes.powi(4) / (1.0 + 4.0 * ratio.powi(2));
+        3.0 * rs / r * (first + second)
+    }
+
     pub fn lambda1(&self) -> f64 {
         match self.arrangement {
             3 => self.lambda1_eddy(3.0),
             4 => self.lambda1_eddy(6.0),
             5 => 1.5 * self.lambda1_bonded(),
+            6 => self.lambda1_common_sheath(),
             _ => self.lambda1_bonded(),
         }
     }
@@ -173,7 +189,8 @@ impl Cable {
 
     /// 1.4.1.1: the rating in amperes.
     pub fn rating(&self) -> f64 {
-        let n = if self.arrangement == 5 { 3.0 } else { 1.0 };
+        let three_cores = matches!(self.arrangement, 5 | 6);
+        let n = if three_cores { 3.0 } else { 1.0 };
         let [t1, t2, t3, t4] = self.thermal;
         let r = self.ac_resistance();
         let rise = self.theta_c - self.theta_a;

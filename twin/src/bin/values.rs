@@ -1,9 +1,12 @@
 // values: prints closed values of the stages, one `name value` a line, so that
 // another implementation's theorems can be compared with them. The inputs are
-// one three-core SL cable and one single-core spacing.
+// one three-core SL cable, one single-core spacing, and two common sheaths.
 
 use std::fmt::Display;
-use twin::stages::{self, Insulation, Thermal};
+use twin::cable::Cable;
+use twin::rating::Words;
+use twin::sample_cables::{COMMON_ALUMINIUM_SHEATH, COMMON_SHEATH};
+use twin::stages::{self, Insulation, Thermal, LARGEST_RS_OF_SUM};
 use twin::tables;
 
 const CONDUCTOR_CODE: u32 = 1;
@@ -135,6 +138,43 @@ fn show_single_core() {
     show("cold_lead", stages::temperature_factor(lead, -4000));
 }
 
+/// b of a cable with a common sheath.
+fn axis_ratio_squared(case: &Words) -> u128 {
+    stages::axis_ratio_squared(case[20].into(), case[13].into())
+}
+
+/// The aluminium sheath, whose loss is the sum of two terms.
+fn show_common_aluminium_sheath() {
+    let Cable { rs, b_high, .. } = Cable::of(&COMMON_ALUMINIUM_SHEATH);
+    let b = axis_ratio_squared(&COMMON_ALUMINIUM_SHEATH);
+    let b2 = stages::axis_ratio_fourth(b);
+    let y = stages::common_sheath_ratio(rs, b_high);
+    let y2 = stages::common_sheath_ratio_squared(y);
+    let first = stages::common_sheath_first_term(b, y2);
+    let second = stages::common_sheath_second_term(b2, y2);
+    show("rs_aluminium", rs);
+    show("b_aluminium", b);
+    show("b2_aluminium", b2);
+    show("y_aluminium", y);
+    show("y2_aluminium", y2);
+    show("first_aluminium", first);
+    show("second_aluminium", second);
+    show("S_aluminium", stages::common_sheath_loss_by_sum(rs, first, second));
+}
+
+/// The lead sheath, of a larger Rs; then the last Rs that takes the sum, and the
+/// next.
+fn show_common_lead_sheath() {
+    let Cable { rs, b_high, .. } = Cable::of(&COMMON_SHEATH);
+    let b = axis_ratio_squared(&COMMON_SHEATH);
+    let loss = |rs| stages::common_sheath_loss(rs, b_high, b);
+    show("rs_lead", rs);
+    show("b_lead", b);
+    show("S_lead", loss(rs));
+    show("S_meeting", loss(LARGEST_RS_OF_SUM));
+    show("S_past_meeting", loss(LARGEST_RS_OF_SUM + 1));
+}
+
 fn show_tables() {
     for metal in 1..=6 {
         show(format_args!("alpha_{metal}"), tables::metal_coefficient(metal));
@@ -150,5 +190,7 @@ fn show_tables() {
 fn main() {
     show_cable();
     show_single_core();
+    show_common_aluminium_sheath();
+    show_common_lead_sheath();
     show_tables();
 }

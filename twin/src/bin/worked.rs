@@ -3,7 +3,9 @@
 // keeps inside a function is worked out here again and held to that function.
 
 use std::fmt::Display;
+use twin::cable::Cable;
 use twin::rating::{rate, value, Rated, Words};
+use twin::sample_cables::{COMMON_ALUMINIUM_SHEATH, COMMON_SHEATH};
 use twin::stages::{self, Insulation, Thermal, LN_2_HIGH, LN_2_LOW, T};
 use twin::tables;
 use twin::whole::{down, up};
@@ -212,13 +214,13 @@ fn show_sheath(x: u128, rs: u128) -> u128 {
 
 // Stage 8.
 
-/// W before the screening. The position's factor is inside the stage's function.
+/// W before the screening.
 fn show_unscreened(ra: u128, b: u128) -> u128 {
     let y = shown("y", stages::armour_ratio(ra, b));
     let y2 = shown("y2", stages::armour_ratio_squared(y));
     let r = shown("r", stages::armour_reduced_resistance(ra, y2));
     let (c, diameter) = (field(20), field(21));
-    let position = shown("up(4c²T/dA²)", up(4 * c * c * T, diameter * diameter));
+    let position = shown("up(4c²T/dA²)", stages::axis_ratio_squared(c, diameter));
     let before = shown("W.before", stages::armour_loss_unscreened(r, c, diameter));
     assert_eq!(before, up(123 * r * position, 100 * T));
     before
@@ -342,7 +344,49 @@ fn show_single_core() {
     show_eddies(b, rs);
 }
 
+/// What both formulas of a common sheath begin with: Rs, B and b.
+fn show_common_sheath(case: &Words, name: &str) -> [u128; 3] {
+    let Cable { rs, b_high, .. } = Cable::of(case);
+    let [f, c, d] = [2, 20, 13].map(|index| u128::from(case[index]));
+    show(format_args!("f.{name}"), f);
+    show(format_args!("c.{name}"), c);
+    show(format_args!("d.{name}"), d);
+    show(format_args!("Rs.{name}"), rs);
+    show(format_args!("B.{name}"), b_high);
+    [rs, b_high, shown(format_args!("b.{name}"), stages::axis_ratio_squared(c, d))]
+}
+
+/// S, which is the one on the sheet.
+fn show_common_sheath_loss(case: &Words, name: &str, loss: u128) {
+    assert_eq!(u128::from(rate(case).sheet[8]), loss);
+    show(format_args!("S.{name}"), loss);
+}
+
+/// The aluminium sheath, by the sum of two terms.
+fn show_common_aluminium_sheath() {
+    let [rs, b_high, b] = show_common_sheath(&COMMON_ALUMINIUM_SHEATH, "aluminium");
+    let b2 = shown("b2.aluminium", stages::axis_ratio_fourth(b));
+    let y = shown("y.aluminium", stages::common_sheath_ratio(rs, b_high));
+    let y2 = shown("y2.aluminium", stages::common_sheath_ratio_squared(y));
+    let first = stages::common_sheath_first_term(b, y2);
+    let second = stages::common_sheath_second_term(b2, y2);
+    show("up(bT/(T+y2)).aluminium", first);
+    show("up(b2T/(T+4y2)).aluminium", second);
+    let loss = stages::common_sheath_loss_by_sum(rs, first, second);
+    show_common_sheath_loss(&COMMON_ALUMINIUM_SHEATH, "aluminium", loss);
+}
+
+/// The lead sheath, by the formula for a larger Rs.
+fn show_common_lead_sheath() {
+    let [rs, b_high, b] = show_common_sheath(&COMMON_SHEATH, "lead");
+    let above = shown("4B²b.lead", 4 * b_high * b_high * b);
+    let below = shown("5RsT.lead", 5 * rs * T);
+    show_common_sheath_loss(&COMMON_SHEATH, "lead", up(above, below));
+}
+
 fn main() {
     show_cable();
     show_single_core();
+    show_common_aluminium_sheath();
+    show_common_lead_sheath();
 }

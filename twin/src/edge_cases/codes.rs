@@ -1,9 +1,9 @@
 // The codes of arrangement, conductor and metals, from one below the first to
-// one above the last, and the armour fields where there is no armour.
+// one above the last, and the fields that an arrangement does not have.
 
 use super::{Edge, Group};
 use crate::rating::{limits, Words};
-use crate::sample_cables::{with, ALL, SL_TYPE, TREFOIL};
+use crate::sample_cables::{with, ALL, COMMON_SHEATH, SL_TYPE, TREFOIL};
 use crate::tables::{LEAD, STEEL};
 
 /// A code's word with its answer: `refusal` where it is none of 1 to `last`.
@@ -13,9 +13,13 @@ fn code(case: &Words, field: usize, word: u32, last: u32, refusal: u32) -> Edge 
 }
 
 pub fn arrangements() -> Group {
-    let single_core = (0..=4).map(|word| code(&TREFOIL, 0, word, 5, 1));
-    let armoured = (5..=6).map(|word| code(&SL_TYPE, 0, word, 5, 1));
-    Group { remark: "Arrangements 0 to 6.", edges: single_core.chain(armoured).collect() }
+    let single_core = (0..=4).map(|word| code(&TREFOIL, 0, word, 6, 1));
+    let armoured = [code(&SL_TYPE, 0, 5, 6, 1)];
+    let common_sheath = (6..=7).map(|word| code(&COMMON_SHEATH, 0, word, 6, 1));
+    Group {
+        remark: "Arrangements 0 to 7.",
+        edges: single_core.chain(armoured).chain(common_sheath).collect(),
+    }
 }
 
 pub fn conductors() -> Group {
@@ -38,7 +42,7 @@ pub fn metals() -> Group {
     let mut edges = Vec::new();
     for word in 0..=7 {
         for case in ALL {
-            let only = (case[0] >= 3).then_some(LEAD);
+            let only = matches!(case[0], 3..=5).then_some(LEAD);
             edges.push(metal(&case, 14, word, only));
         }
         edges.push(metal(&SL_TYPE, 17, word, Some(STEEL)));
@@ -46,17 +50,38 @@ pub fn metals() -> Group {
     Group { remark: "Metals 0 to 7 of the sheath in every arrangement, and of the armour.", edges }
 }
 
-/// In arrangements 1 to 4 an armour field is stray whatever its value, within
+/// A field that an arrangement does not have is stray whatever its value, within
 /// or outside the limits that it has in arrangement 5.
-pub fn stray() -> Group {
+fn stray_fields(cables: &[Words], fields: &[usize]) -> Vec<Edge> {
     let mut edges = Vec::new();
-    for case in &ALL[..4] {
-        for field in 17..=21 {
+    for case in cables {
+        for &field in fields {
             let (low, high) = limits(field);
             for value in [1, low, high, high + 1, -1] {
                 edges.push(Edge { case: with(case, &[(field, value as u32)]), answer: 4 });
             }
         }
     }
-    Group { remark: "Each armour field in arrangements 1 to 4.", edges }
+    edges
+}
+
+/// Each stray field by itself; then cables under the number of another
+/// arrangement, whose fields are stray or missing there.
+pub fn stray() -> Group {
+    let mut edges = stray_fields(&ALL[..4], &[17, 18, 19, 20, 21]);
+    edges.extend(stray_fields(&ALL[5..], &[17, 18, 19, 21]));
+    let renumbered = [
+        (&TREFOIL, 6, 3),
+        (&SL_TYPE, 4, 4),
+        (&SL_TYPE, 6, 4),
+        (&COMMON_SHEATH, 4, 4),
+        (&COMMON_SHEATH, 5, 3),
+    ];
+    edges.extend(
+        renumbered.map(|(cable, word, answer)| Edge { case: with(cable, &[(0, word)]), answer }),
+    );
+    Group {
+        remark: "Each field that an arrangement does not have, and other numbers of it.",
+        edges,
+    }
 }

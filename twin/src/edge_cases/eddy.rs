@@ -1,10 +1,11 @@
 // Refusal 9 at equality, 5B = Rs, and as near to it as can be on both sides. B
 // and so 5B is given by the frequency; Rs by resistance and temperature, and
-// for lead it is a multiple of 400, while 5B is one of 5: 5 is the nearest.
+// for lead it is a multiple of 400, while 5B is one of 5: 5 is the nearest. A
+// common sheath of the same Rs is rated.
 
 use super::{Edge, Group};
 use crate::rating::{limits, value, Words};
-use crate::sample_cables::{with, FLAT_SINGLE_POINT, TREFOIL_SINGLE_POINT};
+use crate::sample_cables::{with, COMMON_SHEATH, FLAT_SINGLE_POINT, TREFOIL_SINGLE_POINT};
 use crate::stages::reactance_unit_high;
 
 /// Rs of lead is its resistance field times 400 times its temperature above
@@ -41,11 +42,11 @@ fn at_distance(cable: &Words, distance: i128) -> Option<Words> {
 
 pub fn eddy() -> Group {
     let mut edges = Vec::new();
-    for cable in [TREFOIL_SINGLE_POINT, FLAT_SINGLE_POINT] {
-        for (distance, answer) in [(5, 0), (0, 0), (-5, 9)] {
+    for (cable, below) in [(TREFOIL_SINGLE_POINT, 9), (FLAT_SINGLE_POINT, 9), (COMMON_SHEATH, 0)] {
+        for (distance, answer) in [(5, 0), (0, 0), (-5, below)] {
             let case = at_distance(&cable, distance).expect("some frequency has this distance");
             edges.push(Edge { case, answer });
         }
     }
-    Group { remark: "Rs 5 above 5B, at it and 5 below.", edges }
+    Group { remark: "Rs 5 above 5B, at it and 5 below; a common sheath does not ask.", edges }
 }

@@ -5,7 +5,7 @@
 
 use super::{Edge, Group};
 use crate::rating::{armoured, limits as limits_of, Words};
-use crate::sample_cables::{with, SL_TYPE, TREFOIL};
+use crate::sample_cables::{with, COMMON_SHEATH, SL_TYPE, TREFOIL};
 
 #[derive(Clone, Copy)]
 enum End {
@@ -15,7 +15,8 @@ enum End {
 use End::{High, Low};
 
 /// Every diameter and the spacing at their highest, which go together.
-const WIDEST: &[(usize, u32)] = &[(6, 10000), (7, 1_000_000), (8, 20000), (9, 30000), (13, 50000)];
+const WIDEST: &[(usize, u32)] =
+    &[(6, 10000), (7, 1_000_000), (8, 20000), (9, 30000), (13, 50000), (21, 50000)];
 
 /// What else must change for a field at the end of its limits to be rated.
 fn room(field: usize, end: End) -> &'static [(usize, u32)] {
@@ -24,24 +25,25 @@ fn room(field: usize, end: End) -> &'static [(usize, u32)] {
         (3, Low) => &[(16, 3000), (19, 3000)],
         // The least resistance passes the skin's limit at a low frequency.
         (5, Low) => &[(2, 1000)],
-        (6..=9 | 13, High) => WIDEST,
-        (8, Low) => &[(6, 100)],
+        (6..=9 | 13 | 20, High) => WIDEST,
+        (7 | 8, Low) => &[(6, 100)],
         // The highest voltage and loss factor pass the dielectric's limit only
         // when the rest of the loss is small.
         (10, High) => &[(11, 100), (12, 1)],
         (12, High) => &[(10, 6000)],
         (16 | 19, High) => &[(3, 25000)],
-        (20, High) => &[(21, 50000)],
         _ => &[],
     }
 }
 
 /// What a field at the end of its limits gets. Some can never be rated: dc is
-/// at least 100, so ds is too and Di, d and s are at least 105; c is at least
-/// 100 and dA at most 50000, so dA is at least 200 and c at most 25000; and the
-/// SL cable's metals are lead and steel.
+/// at least 100, so ds is too and Di, d and, but for a common sheath, s are at
+/// least 105; c is at least 100 and d or dA around the cores at most 50000, so dA
+/// is at least 200 and c at most 25000; and the SL cable's metals are lead and
+/// steel.
 fn answer_at(case: &Words, field: usize, end: End) -> u32 {
     match (field, end) {
+        (7, Low) if case[0] == 6 => 0,
         (7 | 9 | 13, Low) | (20, High) | (21, Low) => 5,
         (14, High) if armoured(case) => 7,
         (17, Low) => 7,
@@ -52,8 +54,9 @@ fn answer_at(case: &Words, field: usize, end: End) -> u32 {
 /// A field at a value, with the room it needs.
 fn at(cable: &Words, field: usize, end: End, value: i64) -> Words {
     let mut case = with(cable, room(field, end));
-    if !armoured(cable) {
-        case[17..=21].fill(0);
+    // What the cable's arrangement does not have stays 0.
+    for absent in (17..=21).filter(|&index| cable[index] == 0) {
+        case[absent] = 0;
     }
     // One below 0 is the highest word.
     case[field] = value as u32;
@@ -70,13 +73,18 @@ fn field_edges(cable: &Words, field: usize) -> [Edge; 4] {
     [limit(Low, low), beyond(Low, low - 1), limit(High, high), beyond(High, high + 1)]
 }
 
-/// The single-core cable for the fields that every arrangement has, and the SL
-/// cable for all.
+/// The single-core cable for the fields that every arrangement has, the SL cable
+/// for all, and the one with a common sheath for every arrangement's and c, which
+/// must not be 0 there.
 pub fn limits() -> Group {
-    let common = (2..=16).chain(22..=25).flat_map(|field| field_edges(&TREFOIL, field));
-    let all = (2..=25).flat_map(|field| field_edges(&SL_TYPE, field));
+    let every_arrangements = || (2..=16).chain(22..=25);
+    let single_core = every_arrangements().flat_map(|field| field_edges(&TREFOIL, field));
+    let armoured = (2..=25).flat_map(|field| field_edges(&SL_TYPE, field));
+    let with_c = every_arrangements().chain([20]);
+    let common_sheath = with_c.flat_map(|field| field_edges(&COMMON_SHEATH, field));
+    let without_c = Edge { case: with(&COMMON_SHEATH, &[(20, 0)]), answer: 3 };
     Group {
         remark: "Each field at its lower limit, one below, at its upper limit and one above.",
-        edges: common.chain(all).collect(),
+        edges: single_core.chain(armoured).chain(common_sheath).chain([without_c]).collect(),
     }
 }

@@ -3,7 +3,7 @@
 
 use super::{Edge, Group};
 use crate::rating::{armoured, Words};
-use crate::sample_cables::{with, ALL, SL_TYPE};
+use crate::sample_cables::{with, ALL, COMMON_SHEATH, SL_TYPE};
 
 type Changes = &'static [(usize, u32)];
 
@@ -24,13 +24,14 @@ const ROUNDED: Changes = &[(6, 1401), (7, 1472), (8, 1401), (9, 1472), (10, 0), 
 const CORE_BEYOND: [Changes; 5] =
     [&[(6, 1401)], &[(9, 1469)], &[(8, 1401)], &[(13, 1469)], &[(7, 1469)]];
 
-pub fn geometry() -> Group {
+/// The relations of arrangements 1 to 5.
+fn own_sheaths() -> Vec<Edge> {
     let mut edges = Vec::new();
-    for cable in ALL {
-        edges.push(edge(&cable, TOUCHING, &[], 0));
-        edges.extend(CORE_BEYOND.map(|beyond| edge(&cable, TOUCHING, beyond, 5)));
-        edges.push(edge(&cable, ROUNDED, &[], 0));
-        edges.push(edge(&cable, ROUNDED, &[(9, 1471)], 5));
+    for cable in &ALL[..5] {
+        edges.push(edge(cable, TOUCHING, &[], 0));
+        edges.extend(CORE_BEYOND.map(|beyond| edge(cable, TOUCHING, beyond, 5)));
+        edges.push(edge(cable, ROUNDED, &[], 0));
+        edges.push(edge(cable, ROUNDED, &[(9, 1471)], 5));
     }
     // 2c = dA, one and two above, and one below by the odd dA.
     let armour: [(Changes, u32); 4] = [
@@ -40,7 +41,52 @@ pub fn geometry() -> Group {
         (&[(20, 5499), (21, 10999)], 0),
     ];
     edges.extend(armour.map(|(beyond, answer)| edge(&SL_TYPE, &[], beyond, answer)));
-    Group { remark: "dc = ds, 100 Di = 105 ds, Di = d, d = s and 2c = dA, and one beyond.", edges }
+    edges
+}
+
+/// Under a common sheath dc = s and 2c = d in place of d = s.
+const TOUCHING_INSIDE: Changes =
+    &[(6, 1400), (7, 1400), (8, 1400), (9, 1470), (10, 0), (13, 1470), (20, 735)];
+
+/// Each relation there one beyond and no other with it; 2c's with d by 2 and, by
+/// an odd d, by 1.
+const INSIDE_BEYOND: [Changes; 7] = [
+    &[(6, 1401), (7, 1401)],
+    &[(9, 1469)],
+    &[(8, 1401)],
+    &[(13, 1469), (20, 734)],
+    &[(7, 1399)],
+    &[(20, 736)],
+    &[(13, 1471), (20, 736)],
+];
+
+/// Spacings that pass there with a d of 7378: at d and at half of it, one above
+/// and one below each, and at dc.
+const INSIDE_SPACINGS: [u32; 7] = [7379, 7378, 7377, 3690, 3689, 3688, 1850];
+
+/// The relations of arrangement 6.
+fn common_sheath() -> Vec<Edge> {
+    let mut edges = Vec::new();
+    for cable in &ALL[5..] {
+        edges.push(edge(cable, TOUCHING_INSIDE, &[], 0));
+        edges.extend(INSIDE_BEYOND.map(|beyond| edge(cable, TOUCHING_INSIDE, beyond, 5)));
+        // 2c one below an odd d.
+        edges.push(edge(cable, TOUCHING_INSIDE, &[(13, 1471)], 0));
+        edges.push(edge(cable, ROUNDED, &[(20, 736)], 0));
+        edges.push(edge(cable, ROUNDED, &[(9, 1471), (20, 736)], 5));
+    }
+    edges.extend(INSIDE_SPACINGS.map(|spacing| Edge {
+        case: with(&COMMON_SHEATH, &[(7, spacing), (13, 7378)]),
+        answer: 0,
+    }));
+    edges
+}
+
+pub fn geometry() -> Group {
+    Group {
+        remark: "dc = ds, 100 Di = 105 ds, Di = d, d = s, 2c = dA, dc = s, 2c = d, and one beyond.",
+        edges: own_sheaths().into_iter().chain(common_sheath()).collect(),
+    }
 }
 
 /// The conductor 5 K above the ambient, and sheath and armour as hot as it.

@@ -3,6 +3,7 @@
 
 use twin::dice::Dice;
 use twin::drawn_cases::{disturb, sound_case};
+use twin::edge_cases::common_sheath::{with_sheath, NEAREST};
 use twin::rating::{rate, Rated, Words};
 use twin::sample_cables::{with, ALL};
 use twin::standard::Cable;
@@ -54,12 +55,24 @@ fn real_cases_agree() {
     println!("real cases: largest shortfall {largest} mA");
 }
 
+/// A common sheath's two formulas are far apart where one takes over from the
+/// other: there the float must take the one that the whole numbers take.
+#[test]
+fn common_sheaths_next_to_the_change_of_formula_agree() {
+    for near in &NEAREST {
+        let case = with_sheath(near);
+        let rated = rate(&case);
+        assert_eq!(rated.answer, 0, "{case:?}");
+        shortfall(&case, &rated);
+    }
+}
+
 #[test]
 fn rolled_cases_agree() {
     let mut dice = Dice(0x60287);
     let mut largest = 0f64;
     let mut widest = 0f64;
-    let mut rated_cases = [0; 5];
+    let mut rated_cases = [0; 6];
     let mut refused = [0; 12];
     for _ in 0..40_000 {
         let case = sound_case(&mut dice);
@@ -86,7 +99,8 @@ fn sheets_agree() {
         let sheet = rate(&case).sheet.map(|number| number as f64);
         let cable = Cable::from_fields(&case);
         let r = cable.ac_resistance();
-        let reactance = if matches!(case[0], 3 | 4) { 0.0 } else { cable.sheath_reactance() };
+        let circulating = matches!(case[0], 1 | 2 | 5);
+        let reactance = if circulating { cable.sheath_reactance() } else { 0.0 };
         let expected = [
             (0, 1e16 * cable.dc_resistance()),
             (1, 1e16 * cable.rs),

@@ -1,10 +1,12 @@
 // What the cases reach that twin/check draws with seed 1: every answer, both
-// sides of 5000 A, and both sides of the skin effect's limit by ks and by kp.
+// sides of 5000 A, both sides of the skin effect's limit by ks and by kp, and what
+// a common sheath alone has.
 
 use twin::cable::Cable;
 use twin::dice::Dice;
 use twin::drawn_cases::drawn_case;
 use twin::rating::{rate, Words, CURRENT_LIMIT, SKIN_LIMIT};
+use twin::stages::LARGEST_RS_OF_SUM;
 
 const DRAWN: usize = 100_000;
 
@@ -62,4 +64,63 @@ fn z_next_to_the_limit_occurs() {
             assert!(nearest < SKIN_LIMIT / 100_000, "{side} {answer}: {nearest}");
         }
     }
+}
+
+/// The cases of arrangement 6 with their answers.
+fn drawn_common_sheaths() -> Vec<(Words, u32)> {
+    drawn().into_iter().filter(|(case, _)| case[0] == 6).collect()
+}
+
+/// How many cases there are of which a test holds.
+fn count(cases: &[(Words, u32)], test: impl Fn(&Words, u32) -> bool) -> usize {
+    cases.iter().filter(|(case, answer)| test(case, *answer)).count()
+}
+
+#[test]
+fn common_sheaths_get_every_answer_they_can() {
+    let cases = drawn_common_sheaths();
+    for answer in [0, 2, 3, 4, 5, 6, 8, 10, 11] {
+        let given = count(&cases, |_, given| given == answer);
+        println!("answer {answer}: {given} of {} common sheaths", cases.len());
+        assert!(given > cases.len() / 500, "{answer}: {given}");
+    }
+    assert_eq!(count(&cases, |_, given| [1, 7, 9].contains(&given)), 0);
+    let past_the_last = count(&drawn(), |case, answer| case[0] == 7 && answer == 1);
+    assert!(past_the_last > 20, "{past_the_last}");
+}
+
+#[test]
+fn common_sheaths_reach_what_only_they_ask() {
+    let cases = drawn_common_sheaths();
+    let rated: Vec<(Words, u32)> = cases.iter().filter(|(_, given)| *given == 0).copied().collect();
+    let few = rated.len() / 20;
+    assert!(count(&rated, |case, _| case[7] < case[13] && 2 * case[7] > case[13]) > few);
+    assert!(count(&rated, |case, _| 2 * case[7] < case[13]) > few);
+    assert!(count(&rated, |case, _| case[7] > case[13]) > few);
+    assert!(count(&rated, |case, _| case[7] == case[6]) > few);
+    assert!(count(&rated, |case, _| 2 * case[20] == case[13]) > few);
+    assert!(count(&rated, |case, _| case[20] == 100) > few);
+    for metal in 1..=6 {
+        assert!(count(&rated, |case, _| case[14] == metal) > few, "{metal}");
+    }
+    for (c, answer) in [(99, 3), (100, 0), (50000, 5), (50001, 3)] {
+        assert!(count(&cases, |case, given| case[20] == c && given == answer) > 3, "{c}");
+    }
+}
+
+#[test]
+fn rs_next_to_the_change_of_formula_occurs() {
+    let rated = drawn_common_sheaths().into_iter().filter(|(_, answer)| *answer == 0);
+    let resistances: Vec<u128> = rated.map(|(case, _)| Cable::of(&case).rs).collect();
+    let by_sum = resistances.iter().filter(|&&rs| rs <= LARGEST_RS_OF_SUM).count();
+    let at = resistances.iter().filter(|&&rs| rs == LARGEST_RS_OF_SUM).count();
+    let beyond = resistances.len() - by_sum;
+    println!("{by_sum} common sheaths by the sum, {at} of them at its end, and {beyond} beyond");
+    assert!(by_sum.min(beyond) > resistances.len() / 3 && at > resistances.len() / 200);
+    let below = resistances.iter().copied().filter(|&rs| rs < LARGEST_RS_OF_SUM);
+    let above = resistances.iter().copied().filter(|&rs| rs > LARGEST_RS_OF_SUM);
+    let nearest = [nearest(below, LARGEST_RS_OF_SUM), nearest(above, LARGEST_RS_OF_SUM)];
+    // The sheath's resistance moves it by some 10^7.
+    println!("the nearest Rs on both sides are {nearest:?} away");
+    assert!(nearest.iter().all(|&distance| distance < 1_000_000), "{nearest:?}");
 }

@@ -1,9 +1,12 @@
-// Document 01's 'Values at the edges', as far as they concern the rating, each
-// asked of the function that gives it; those that can be reached by a whole
-// case are asked of a case too.
+// Document 01's 'Values at the edges', as far as they concern the rating, and
+// those of document 02's common sheath, each asked of the function that gives it;
+// those that can be reached by a whole case are asked of a case too.
 
-use twin::rating::{dielectric_refused, eddy_refused, rate, skin_refused};
-use twin::sample_cables::{with, SL_TYPE, TREFOIL_SINGLE_POINT};
+use twin::edge_cases::common_sheath::ROUNDINGS;
+use twin::rating::{dielectric_refused, eddy_refused, rate, skin_refused, Rated, Words};
+use twin::sample_cables::{
+    with, COMMON_ALUMINIUM_SHEATH, COMMON_SHEATH, SL_TYPE, TREFOIL_SINGLE_POINT,
+};
 use twin::stages::{self, T};
 use twin::tables;
 
@@ -99,11 +102,56 @@ fn ends_of_the_logarithm_stay_close() {
 }
 
 #[test]
+fn parts_of_the_common_sheaths_loss() {
+    // The aluminium cable's, worked out apart from this package.
+    let b_high = stages::reactance_unit_high(5000);
+    let rs = 858_808_498_030;
+    let b = stages::axis_ratio_squared(1853, 7297);
+    let b2 = stages::axis_ratio_fourth(b);
+    let y = stages::common_sheath_ratio(rs, b_high);
+    let y2 = stages::common_sheath_ratio_squared(y);
+    assert_eq!((b, b2), (257_942_044_288, 66_534_098_212));
+    assert_eq!((y, y2), (2_733_672_352_607, 7_472_964_531_407));
+    let first = stages::common_sheath_first_term(b, y2);
+    let second = stages::common_sheath_second_term(b2, y2);
+    assert_eq!((first, second), (30_442_951_028, 2_153_774_563));
+    assert_eq!(stages::common_sheath_loss_by_sum(rs, first, second), 83_983_034_837);
+}
+
+#[test]
+fn common_sheaths_loss_where_the_formula_changes() {
+    // With the lead cable's c and d the loss rises by a tenth there.
+    let b_high = stages::reactance_unit_high(5000);
+    let b = stages::axis_ratio_squared(1853, 7377);
+    assert_eq!(b, 252_377_865_551);
+    assert_eq!(stages::common_sheath_loss(T, b_high, b), 72_614_704_926);
+    assert_eq!(stages::common_sheath_loss(T + 1, b_high, b), 79_707_830_163);
+    // Stainless steel has the same Rs at every temperature.
+    let stainless = |field| with(&COMMON_SHEATH, &[(14, 5), (15, field)]);
+    assert_eq!(rate(&stainless(100_000)).sheet[8], 72_614_704_926);
+    assert_eq!(rate(&stainless(100_001)).sheet[8], 79_707_033_093);
+}
+
+/// Each case is such that any one of b, b2, y, y2, both terms and S, rounded the
+/// other way, changes S.
+#[test]
+fn every_rounding_of_the_common_sheaths_loss_shows() {
+    let [by_sum, beyond] = ROUNDINGS.map(|case| rate(&case).sheet[8]);
+    assert_eq!((by_sum, beyond), (789_991_608_533, 533_598_173_808));
+    // With 2c = d there is nothing to round.
+    assert_eq!(stages::axis_ratio_squared(25000, 50000), T);
+    assert_eq!(stages::axis_ratio_fourth(T), T);
+}
+
+/// The sheet's numbers were worked out once more apart from this package with
+/// whole numbers of any length.
+fn whole_sheet(case: &Words, rating: u32, sheet: [u64; 13]) {
+    assert_eq!(rate(case), Rated { answer: 0, rating, sheet });
+}
+
+#[test]
 fn whole_sheet_of_the_sl_cable() {
-    // The numbers the program `values` prints, worked out once more apart from
-    // this package with whole numbers of any length.
-    let rated = rate(&SL_TYPE);
-    assert_eq!((rated.answer, rated.rating), (0, 457_106));
+    // The numbers the program `values` prints.
     let expected = [
         1_556_758_000_000,
         11_600_000_000_000,
@@ -119,5 +167,41 @@ fn whole_sheet_of_the_sl_cable() {
         557_941_517,
         3_323_443_717_554,
     ];
-    assert_eq!(rated.sheet, expected);
+    whole_sheet(&SL_TYPE, 457_106, expected);
+}
+
+#[test]
+fn whole_sheets_of_the_common_sheaths() {
+    let lead = [
+        961_425_400_000,
+        4_420_859_576_800,
+        0,
+        628_318_530_720,
+        8_835_005_445,
+        12_722_773_647,
+        982_151_596_387,
+        0,
+        18_029_939_377,
+        0,
+        56_650_693_262,
+        167_999_416,
+        3_161_843_911_640,
+    ];
+    whole_sheet(&COMMON_SHEATH, 469_955, lead);
+    let aluminium = [
+        1_602_625_000_000,
+        858_808_498_030,
+        0,
+        628_318_530_720,
+        3_194_063_320,
+        4_692_286_050,
+        1_615_263_860_660,
+        0,
+        83_983_034_837,
+        0,
+        56_650_693_262,
+        168_887_415,
+        5_376_747_008_813,
+    ];
+    whole_sheet(&COMMON_ALUMINIUM_SHEATH, 360_383, aluminium);
 }

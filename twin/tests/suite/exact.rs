@@ -12,7 +12,7 @@ use twin::fraction::Fraction;
 use twin::margins::{distance_under_line, margins, margins_at, Margins};
 use twin::published::published;
 use twin::rating::{rate, Rated, Words};
-use twin::sample_cables::{ALL, FLAT, SL_TYPE, TREFOIL, TREFOIL_SINGLE_POINT};
+use twin::sample_cables::{ALL, COMMON_SHEATH, FLAT, SL_TYPE, TREFOIL, TREFOIL_SINGLE_POINT};
 use twin::standard::Cable;
 
 const FIGURE: &str = concat!(env!("CARGO_MANIFEST_DIR"), "/../docs/margins.svg");
@@ -25,7 +25,7 @@ fn drawn_cases(seed: u64, count: usize) -> impl Iterator<Item = (Words, Rated)> 
 #[test]
 fn both_bounds_hold_at_every_combination_of_ends() {
     let mut all = Margins::none();
-    let mut arrangements = [0; 5];
+    let mut arrangements = [0; 6];
     for (case, rated) in drawn_cases(0x1e0c, 600) {
         let margins = margins(&case, &rated);
         all = all.join(&margins.unwrap_or_else(|| panic!("{case:?} {rated:?}")));
@@ -56,7 +56,8 @@ fn both_bounds_hold_between_the_ends() {
 
 #[test]
 fn combinations_are_of_the_numbers_that_enter() {
-    let counts = [(TREFOIL, 8), (FLAT, 16), (TREFOIL_SINGLE_POINT, 4), (SL_TYPE, 8)];
+    let counts =
+        [(TREFOIL, 8), (FLAT, 16), (TREFOIL_SINGLE_POINT, 4), (SL_TYPE, 8), (COMMON_SHEATH, 4)];
     for (case, count) in counts {
         let ends = Ends::of(&case);
         let combinations = ends.combinations();
@@ -100,19 +101,21 @@ fn the_limit_is_the_standards() {
     println!("widest gap of the exact limit and the standard's: {widest:e}");
 }
 
-/// The exact E and dd of each arrangement's cable in thousandths of a unit,
+/// The exact E and dd of each real-looking cable in thousandths of a unit,
 /// rounded down, with pi, ln 2 and both logarithms at their lower ends. Worked
 /// out apart from this package with fractions of any length.
-const THOUSANDTHS: [(u128, u128); 5] = [
+const THOUSANDTHS: [(u128, u128); 7] = [
     (1_206_082_492_977_817, 2_370_886_469_412),
     (1_906_645_229_445_679, 445_449_695_947),
     (1_100_877_157_314_122, 2_370_886_469_412),
     (584_706_449_075_029, 1_827_897_835_451),
     (3_323_443_717_507_230, 557_941_516_015),
+    (3_161_843_911_624_198, 167_999_415_358),
+    (5_376_747_008_776_336, 168_887_414_975),
 ];
 
 #[test]
-fn one_cable_of_each_arrangement_to_the_thousandth() {
+fn each_real_looking_cable_to_the_thousandth() {
     for (case, (e, dd)) in ALL.into_iter().zip(THOUSANDTHS) {
         let exact = Heating::of(&case, &Ends::of(&case).between([0; 4], 1));
         for (fraction, thousandths) in [(exact.e, e), (exact.dd, dd)] {

@@ -1,10 +1,11 @@
 // The refusals 1 to 11: each by itself, and at the edges of its condition with
-// the numbers as document 01 has them.
+// the numbers as documents 01 and 02 have them.
 
-use twin::edge_cases::pairs::BRINGS;
+use twin::edge_cases::pairs::{BRINGS, COMMON_BRINGS};
 use twin::rating::{current_refused, rate, Rated, Words};
 use twin::sample_cables::{
-    with, ALL, FLAT, FLAT_SINGLE_POINT, SL_TYPE, TREFOIL, TREFOIL_SINGLE_POINT,
+    with, ALL, COMMON_ALUMINIUM_SHEATH, COMMON_SHEATH, FLAT, FLAT_SINGLE_POINT, SL_TYPE, TREFOIL,
+    TREFOIL_SINGLE_POINT,
 };
 use twin::standard::Cable;
 
@@ -30,24 +31,31 @@ fn each_refusal_by_itself() {
     for (number, changes) in BRINGS {
         refused_with(&with(&TREFOIL_SINGLE_POINT, changes), number);
     }
+    for (number, changes) in COMMON_BRINGS {
+        refused_with(&with(&COMMON_SHEATH, changes), number);
+    }
 }
 
 /// The pair 10 and 11 needs care, for the dielectric loss must leave enough of
 /// the rise for 5000 A: the standard's formulas say that both do hold there.
 #[test]
 fn dielectric_and_current_hold_together() {
-    let ((_, dielectric), (_, current)) = (BRINGS[9], BRINGS[10]);
-    let cable = Cable::from_fields(&with(&with(&TREFOIL_SINGLE_POINT, current), dielectric));
-    let rise = cable.theta_c - cable.theta_a;
-    let dielectric_rise = cable.dielectric_loss() * (0.5 * 0.001 + 0.01);
-    assert!(dielectric_rise > 0.9 * rise && dielectric_rise < rise, "{dielectric_rise}");
-    assert!(cable.rating() > 5000.0, "{}", cable.rating());
+    let single_core = (TREFOIL_SINGLE_POINT, BRINGS[9], BRINGS[10], 1.0);
+    let three_cores = (COMMON_SHEATH, COMMON_BRINGS[7], COMMON_BRINGS[8], 3.0);
+    for (case, (_, dielectric), (_, current), n) in [single_core, three_cores] {
+        let cable = Cable::from_fields(&with(&with(&case, current), dielectric));
+        let rise = cable.theta_c - cable.theta_a;
+        let dielectric_rise = cable.dielectric_loss() * (0.5 * 0.001 + n * 0.01);
+        assert!(dielectric_rise > 0.9 * rise && dielectric_rise < rise, "{dielectric_rise}");
+        assert!(cable.rating() > 5000.0, "{}", cable.rating());
+    }
 }
 
 #[test]
 fn arrangement_and_conductor_ends() {
-    for (arrangement, number) in [(0, 1), (6, 1), (u32::MAX, 1)] {
-        refused_with(&with(&TREFOIL, &[(0, arrangement)]), number);
+    for arrangement in [0, 7, u32::MAX] {
+        refused_with(&with(&TREFOIL, &[(0, arrangement)]), 1);
+        refused_with(&with(&COMMON_SHEATH, &[(0, arrangement)]), 1);
     }
     for code in [0, 9, u32::MAX] {
         refused_with(&with(&TREFOIL, &[(1, code)]), 2);
@@ -85,25 +93,47 @@ const JUST_OUTSIDE: [(usize, u32, u32); 24] = [
     (25, 9999, 20_000_001),
 ];
 
+fn limits_hold(cable: &Words, (field, below, above): (usize, u32, u32)) {
+    refused_with(&with(cable, &[(field, below)]), 3);
+    refused_with(&with(cable, &[(field, above)]), 3);
+    for inside in [below.wrapping_add(1), above - 1] {
+        assert_ne!(rate(&with(cable, &[(field, inside)])).answer, 3, "{field} {inside}");
+    }
+}
+
 #[test]
 fn limits_just_outside_and_at_the_ends() {
-    for (field, below, above) in JUST_OUTSIDE {
-        refused_with(&with(&SL_TYPE, &[(field, below)]), 3);
-        refused_with(&with(&SL_TYPE, &[(field, above)]), 3);
-        for inside in [below.wrapping_add(1), above - 1] {
-            assert_ne!(rate(&with(&SL_TYPE, &[(field, inside)])).answer, 3, "{field} {inside}");
+    for limits in JUST_OUTSIDE {
+        limits_hold(&SL_TYPE, limits);
+        if !matches!(limits.0, 17..=19 | 21) {
+            limits_hold(&COMMON_SHEATH, limits);
         }
     }
 }
 
 #[test]
 fn armour_fields_outside_the_sl_cable_are_stray() {
-    for base in [TREFOIL, FLAT, TREFOIL_SINGLE_POINT, FLAT_SINGLE_POINT] {
-        for field in 17..=21 {
+    for base in [TREFOIL, FLAT, TREFOIL_SINGLE_POINT, FLAT_SINGLE_POINT, COMMON_SHEATH] {
+        for field in [17, 18, 19, 21] {
             // In or out of the SL cable's limits: stray either way.
             for word in [1, 6, 5000, COLD, u32::MAX] {
                 refused_with(&with(&base, &[(field, word)]), 4);
             }
+        }
+    }
+}
+
+#[test]
+fn c_is_stray_only_in_single_core_cables() {
+    for base in [TREFOIL, FLAT, TREFOIL_SINGLE_POINT, FLAT_SINGLE_POINT] {
+        for word in [1, 99, 100, 50000, 50001, u32::MAX] {
+            refused_with(&with(&base, &[(20, word)]), 4);
+        }
+    }
+    // In the others it has limits, and the upper is past what geometry allows.
+    for base in [SL_TYPE, COMMON_SHEATH, COMMON_ALUMINIUM_SHEATH] {
+        for (word, number) in [(0, 3), (99, 3), (100, 0), (50000, 5), (50001, 3), (u32::MAX, 3)] {
+            assert_eq!(rate(&with(&base, &[(20, word)])).answer, number, "{word}");
         }
     }
 }
@@ -125,6 +155,25 @@ fn geometry_edges() {
 }
 
 #[test]
+fn geometry_edges_of_the_common_sheath() {
+    let d = COMMON_SHEATH[13];
+    // s down to dc, and of no account beside d.
+    for spacing in [1850, d / 2, d / 2 + 1, d - 1, d, d + 1, 1_000_000] {
+        assert_eq!(rate(&with(&COMMON_SHEATH, &[(7, spacing)])).answer, 0, "{spacing}");
+    }
+    refused_with(&with(&COMMON_SHEATH, &[(7, 1849)]), 5);
+    refused_with(&with(&COMMON_SHEATH, &[(6, 1971)]), 5);
+    // 2 x 3688 = 7376 = d - 1.
+    assert_eq!(rate(&with(&COMMON_SHEATH, &[(20, 3688)])).answer, 0);
+    assert_eq!(rate(&with(&COMMON_SHEATH, &[(13, 7376), (20, 3688)])).answer, 0);
+    refused_with(&with(&COMMON_SHEATH, &[(13, 7375), (20, 3688)]), 5);
+    refused_with(&with(&COMMON_SHEATH, &[(20, 3689)]), 5);
+    // Di = d, with cores that would not fit: the rules ask no more.
+    assert_eq!(rate(&with(&COMMON_SHEATH, &[(13, 3070), (20, 1535)])).answer, 0);
+    refused_with(&with(&COMMON_SHEATH, &[(13, 3069), (20, 1534)]), 5);
+}
+
+#[test]
 fn heat_edges() {
     assert_eq!(rate(&with(&TREFOIL, &[(16, 8500)])).answer, 0);
     refused_with(&with(&TREFOIL, &[(16, 8501)]), 6);
@@ -137,8 +186,9 @@ fn heat_edges() {
 #[test]
 fn metals_by_arrangement() {
     for metal in 2..=6 {
-        assert_eq!(rate(&with(&TREFOIL, &[(14, metal)])).answer, 0);
-        assert_eq!(rate(&with(&FLAT, &[(14, metal)])).answer, 0);
+        for base in [TREFOIL, FLAT, COMMON_SHEATH] {
+            assert_eq!(rate(&with(&base, &[(14, metal)])).answer, 0);
+        }
         for base in [TREFOIL_SINGLE_POINT, FLAT_SINGLE_POINT, SL_TYPE] {
             refused_with(&with(&base, &[(14, metal)]), 7);
         }
@@ -171,7 +221,7 @@ fn eddy_holds_only_where_bonded_at_one_point() {
         refused_with(&with(&base, &low), 9);
         assert_eq!(rate(&with(&base, &high)).answer, 0);
     }
-    for base in [TREFOIL, FLAT, SL_TYPE] {
+    for base in [TREFOIL, FLAT, SL_TYPE, COMMON_SHEATH] {
         assert_eq!(rate(&with(&base, &low)).answer, 0);
     }
 }

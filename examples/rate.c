@@ -1,4 +1,4 @@
-/* Rates a cable by the proved library and prints its rating in mA, or the number of the refusal. */
+/* Rates a cable by the proved library and prints its rating in mA, or the refusal's number and word. */
 #include "sheafdawn.h"
 #include <inttypes.h>
 #include <stdio.h>
@@ -9,9 +9,9 @@ int main(void) {
     uint64_t rated[SHEAFDAWN_RATED];
     uint32_t answer = sheafdawn_rate(cable, SHEAFDAWN_CASE, rated, SHEAFDAWN_RATED);
     if (answer != 0) {
-        printf("refused by %" PRIu32 "\n", answer);
+        printf("refused by %" PRIu32 " %s\n", answer, sheafdawn_word(answer));
         return 1;
     }
-    printf("%" PRIu64 " mA\n", rated[0]);
+    printf("%" PRIu64 " mA\n", rated[SHEAFDAWN_RATING]);
     return 0;
 }

@@ -1,5 +1,4 @@
 // Keeps two cables in a book by the proved library and reads their ratings back.
-#[allow(dead_code)] // this example calls some of the library's functions, not all
 #[path = "../crates/sheafdawn/rust/sheafdawn.rs"]
 mod sheafdawn;
 
@@ -10,7 +9,7 @@ const CABLE: sheafdawn::Case = [
 
 fn main() -> Result<(), sheafdawn::Refused> {
     let mut hotter = CABLE;
-    hotter[4] = 3000; // the ground at 30 degrees C
+    hotter[sheafdawn::field::AMBIENT_TEMPERATURE] = 3000; // the ground at 30 degrees C
     let mut buffer = [0; 1024];
     let mut used = sheafdawn::start(&mut buffer, 0)?;
     for case in [CABLE, hotter] {
@@ -19,7 +18,11 @@ fn main() -> Result<(), sheafdawn::Refused> {
     let accepted = sheafdawn::accept(&buffer, used)?;
     for index in 0..accepted.count {
         let record = sheafdawn::read(&buffer, used, index)?;
-        println!("answer {}, {} mA", record[26], record[27]);
+        println!(
+            "answer {}, {} mA",
+            record[sheafdawn::record::ANSWER],
+            record[sheafdawn::record::RATING]
+        );
     }
     Ok(())
 }

@@ -8,13 +8,19 @@ use fields::ARRANGEMENT;
 use fields::CONDUCTOR;
 use fields::SHEATH_METAL;
 
+// The arrangements that have fields which others lack.
+pub const SL_TYPE: u32 = 5;
+
+pub const COMMON_SHEATH: u32 = 6;
+
 // What the codes stand for, each in the row of its number.
-const ARRANGEMENTS: [u8; 237] = *b"
+const ARRANGEMENTS: [u8; 265] = *b"
   single-core, trefoil, bonded at both ends
   single-core, flat, transposed, bonded at both ends
   single-core, trefoil, bonded at one point
   single-core, flat, bonded at one point, centre cable
   three-core SL type, steel wire armour
+  three-core, common sheath
 ";
 
 const CONDUCTORS: [u8; 199] = *b"

@@ -2,6 +2,8 @@
 // units of the fields themselves).
 ghost use Prim.Native.Nat.{_≤_};
 ghost use lib.ListN.{length};
+use crate::codes::COMMON_SHEATH;
+use crate::codes::SL_TYPE;
 use crate::codes::put_words;
 use crate::fixed::Value;
 use crate::fixed::complement;
@@ -14,6 +16,7 @@ use fields::ARMOUR_METAL;
 use fields::ARMOUR_RESISTANCE;
 use fields::ARMOUR_TEMPERATURE;
 use fields::ARRANGEMENT;
+use fields::AXIS_DISTANCE;
 use fields::CONDUCTOR;
 use fields::CONDUCTOR_RESISTANCE;
 use fields::CONDUCTOR_TEMPERATURE;
@@ -30,7 +33,7 @@ use fields::VOLTAGE;
 use fields::WIDTH;
 
 // A row for each field: the symbol in 13 bytes, then the unit, the meaning and the limits.
-const LABELS: [u8; 1312] = *b"  arrangement  [1 to 5]
+const LABELS: [u8; 1312] = *b"  arrangement  [1 to 6]
   conductor    [1 to 8]
   f            Hz        frequency [10 to 65]
   theta_c      deg C     conductor [40 to 250]
@@ -85,12 +88,24 @@ fn value(i: usize, x: u32) -> Value {
     }
 }
 
-// Field i, where it is not one of the armour's or these are asked for.
-fn put_field(out: &mut [u8], at: usize, i: usize, x: u32, armour: bool) -> usize
+// Whether an arrangement has field i: only the SL type has armour, and c is the distance of a core's
+// axis from that of a cable with three cores.
+fn has(arrangement: u32, i: usize) -> bool {
+    match i {
+        ARMOUR_METAL | ARMOUR_RESISTANCE | ARMOUR_TEMPERATURE | ARMOUR_DIAMETER => {
+            arrangement == SL_TYPE
+        }
+        AXIS_DISTANCE => (arrangement == SL_TYPE) | (arrangement == COMMON_SHEATH),
+        _ => true,
+    }
+}
+
+// Field i, where it is shown.
+fn put_field(out: &mut [u8], at: usize, i: usize, x: u32, shown: bool) -> usize
     requires { ⌜ at ≤ length (now out) ⌝ }
     ensures { λ r. ⌜ r ≤ length (now (out .entry)) ⌝ }
 {
-    if !armour & (ARMOUR_METAL <= i) & (i <= ARMOUR_DIAMETER) {
+    if !shown {
         return at;
     }
     let at = put_line(out, at, &LABELS, i, value(i, x), decimals(i), AFTER_POINT);
@@ -98,14 +113,16 @@ fn put_field(out: &mut [u8], at: usize, i: usize, x: u32, armour: bool) -> usize
     put_text(out, at, b"\n")
 }
 
-pub fn put_fields(out: &mut [u8], at: usize, x: Case, armour: bool) -> usize
+// The fields that the case's arrangement has, or all of them.
+pub fn put_fields(out: &mut [u8], at: usize, x: Case, all: bool) -> usize
     requires { ⌜ at ≤ length (now out) ⌝ }
     ensures { λ r. ⌜ r ≤ length (now (out .entry)) ⌝ }
 {
+    let arrangement = x[ARRANGEMENT];
     let mut at = at;
     let mut i = 0;
     while i < WIDTH {
-        at = put_field(out, at, i, x[i], armour);
+        at = put_field(out, at, i, x[i], all | has(arrangement, i));
         i += 1;
     }
     at

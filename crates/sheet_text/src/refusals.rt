@@ -20,12 +20,12 @@ const WORDS: [u8; 108] = *b"
 11 current
 ";
 
-const RULES: [u8; 789] = *b"
-The arrangement must be one of 1 to 5.
+const RULES: [u8; 886] = *b"
+The arrangement must be one of 1 to 6.
 The conductor's code must be one of 1 to 8.
-A field is outside its limits, which stand in brackets (the armour's hold in arrangement 5).
-Arrangements 1 to 4 have no armour: its five fields must be 0.
-It must be that dc <= ds, 1.05 ds <= Di, Di <= d and d <= s; in arrangement 5 also 2 c <= dA.
+A field is outside its limits, which stand in brackets (the armour's hold in arrangement 5, c's in 5 and 6).
+Only arrangement 5 has armour: in the others armour, RA0, theta_A and dA must be 0, and in 1 to 4 also c.
+It must be that dc <= ds, 1.05 ds <= Di and Di <= d; also d <= s in arrangements 1 to 5, 2 c <= dA in 5, dc <= s and 2 c <= d in 6.
 The conductor must be 5 K or more above the ambient, and neither sheath nor armour above it.
 The sheath must be lead in arrangements 3, 4 and 5, and the armour steel in 5.
 The skin and proximity formulas end where 8 pi f k / (10^7 R') is 7.84, for k = ks and kp.

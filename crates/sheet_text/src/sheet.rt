@@ -2,6 +2,7 @@
 // at its end.
 ghost use Prim.Native.Nat.{_≤_};
 ghost use lib.ListN.{length};
+use crate::codes::SL_TYPE;
 use crate::field_rows::put_fields;
 use crate::fixed::plain;
 use crate::line::put_line;
@@ -12,9 +13,6 @@ use crate::rows::put_text;
 use fields::ARRANGEMENT;
 use fields::Case;
 use rating::rate::Answer;
-
-// The arrangement that has armour.
-const ARMOURED: u32 = 5;
 
 // The sheet and the rating of a case that is not refused.
 fn put_rated(out: &mut [u8], at: usize, r: Answer, armour: bool) -> usize
@@ -47,13 +45,12 @@ fn put_verdict(out: &mut [u8], at: usize, r: Answer, armour: bool) -> usize
     put_refusal(out, at, r.answer)
 }
 
-// The armour is shown where there is one, and in a refused case, which shows all that was given.
+// A refused case shows every field, so that a value which its arrangement has no use for is seen.
 pub fn put_sheet(out: &mut [u8], at: usize, x: Case, r: Answer) -> usize
     requires { ⌜ at ≤ length (now out) ⌝ }
     ensures { λ n. ⌜ n ≤ length (now (out .entry)) ⌝ }
 {
-    let armoured = x[ARRANGEMENT] == ARMOURED;
-    let at = put_fields(out, at, x, armoured | (r.answer != 0));
-    let at = put_verdict(out, at, r, armoured);
+    let at = put_fields(out, at, x, r.answer != 0);
+    let at = put_verdict(out, at, r, x[ARRANGEMENT] == SL_TYPE);
     put_text(out, at, b"\n")
 }

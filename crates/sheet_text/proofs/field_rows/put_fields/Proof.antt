@@ -10,10 +10,10 @@ use Rattle.sheet_text.proofs.field_rows.put_fields.Statement.{statement
 use Rattle.sheet_text.proofs.field_rows.put_fields.Tie as tie
 
 abbrev Inv-loop : tie.InvT-loop
-Inv-loop out₀ at armour x at₀ i₀ out at' i = (length out ≡ length out₀) × (at' ≤ length out₀)
+Inv-loop out₀ at all x arrangement at₀ i₀ out at' i = (length out ≡ length out₀) × (at' ≤ length out₀)
 
 abbrev μ-loop : tie.MeasureT-loop
-μ-loop out₀ at armour x at₀ i₀ out at' i = width - i
+μ-loop out₀ at all x arrangement at₀ i₀ out at' i = width - i
 
 pub put-fields-spec : {M : Type 1} → statement M
 put-fields-spec =
@@ -21,9 +21,11 @@ put-fields-spec =
     (tie.spec
     Inv-loop
     μ-loop
+    (λ c. omega arith)
     (λ c. (refl, c .before .pre))
     (λ c. omega arith)
     (λ c. omega arith)
+    (λ c κs. tt)
     (λ c κs. omega arith)
     (λ c. omega arith)
     (λ c. omega arith)

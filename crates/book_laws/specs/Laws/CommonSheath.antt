@@ -1,6 +1,6 @@
--- A book with the record of a three-core cable under one sheath, arrangement 6, which rates 469.955 A: it is accepted, and demand 3 holds of
--- its record. The same case with the answer 1 that it had before refusal 1 let arrangement 6 pass disagrees, since each book is judged by
--- today's rules. Assumes nothing.
+-- A book with the record of a three-core cable under one sheath, arrangement 6, which rates 469.955 A: it is accepted, and demand 3
+-- holds of its record. The same case with the answer 1 that it had before refusal 1 let arrangement 6 pass disagrees, since each book is
+-- judged by today's rules. Assumes nothing.
 use mathlib.Core.Bool.{cond, _&&_}
 use mathlib.Core.List.{List, [], _∷_, _++_}
 use mathlib.Core.Path.{_≡_, refl, ap, ap₂}

@@ -15,11 +15,10 @@ use Rattle.exact.specs.Laws.Error.{
   within-times,
   within-product,
   within-scale,
-  within-relative-reciprocal,
 }
-use Rattle.exact.specs.Laws.RoundingError.{within-up, within-round-down}
+use Rattle.exact.specs.Laws.RoundingError.{within-up}
 use Rattle.exact.specs.Trillion.{trillion}
-use Rattle.formulas.specs.Constants.{tera, piLow, IsPi}
+use Rattle.formulas.specs.Constants.{tera, IsPi}
 use Rattle.formulas.specs.Reactance.{reactance, reactance*}
 use Rattle.formulas.specs.Armour.{
   armourRatio,
@@ -35,7 +34,6 @@ use Rattle.formulas.specs.Armour.{
   armourLoss*,
 }
 use Rattle.formulas.specs.Laws.Ranges.{In, reactance-range, reducedArmourResistance-most, unscreenedLoss-most}
-use Rattle.formulas.specs.Laws.CloseReactance.{reactance-close}
 use Rattle.formulas.specs.Laws.Bounds.{leastSheathResistance, mostResistance, leastSheathReactanceLow, mostArmourLoss}
 use Rattle.formulas.specs.Laws.CloseInverse.{over-reactance-close, inverse-close, inverse-most}
 use Rattle.formulas.specs.Laws.CloseScreening.{screeningRatio-close, screening-close}

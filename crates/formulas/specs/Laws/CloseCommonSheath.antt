@@ -40,7 +40,7 @@ use Rattle.formulas.specs.CommonSheath.{
   commonLoss*,
 }
 use Rattle.formulas.specs.Laws.Ranges.{In, reactance-range, is-first, is-second, axisRatio-most, axisRatioSquared-most}
-use Rattle.formulas.specs.Laws.Bounds.{leastSheathResistance, mostReactance}
+use Rattle.formulas.specs.Laws.Bounds.{leastSheathResistance}
 use Rattle.formulas.specs.Laws.LogRange.{tera>0}
 use Rattle.formulas.specs.Laws.CloseReactance.{reactance-close}
 use Rattle.formulas.specs.Laws.CloseInverse.{over-reactance-close, inverse-close, inverse-close-times, inverse-most}

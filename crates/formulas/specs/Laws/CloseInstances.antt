@@ -192,7 +192,8 @@ w-close =
 -- the S of arrangement 6, under an aluminium sheath of less than 100 µΩ/m and under a lead sheath of more
 
 common-first :
-    Within 196 (whole 19) (commonLoss* (reactance* π 5000) 858808498030 1853 7297) (whole (commonLoss (reactance 5000) 858808498030 1853 7297))
+    Within 196 (whole 19) (commonLoss* (reactance* π 5000) 858808498030 1853 7297)
+    (whole (commonLoss (reactance 5000) 858808498030 1853 7297))
 common-first = common-close 1853 is-pi frequency (lit≤ tt) (lit< tt) (lit≤ tt)
 
 common-second :

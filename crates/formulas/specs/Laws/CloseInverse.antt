@@ -65,9 +65,12 @@ square-down q =
     (record { left = lit< tt; right = lit< tt; across = omega arith })
     scaled
 
-one-part : (m : ℕ) (x : Fraction) → 0 < x .den → whole 0 +F ((1 over tera) +F whole 0) *F whole m ≤F parts m *F (whole 1 +F whole m *F square x)
+-- m units over T are at most m parts of 1 + m x²
+m-parts :
+    (m : ℕ) (x : Fraction) → 0 < x .den →
+    whole 0 +F ((1 over tera) +F whole 0) *F whole m ≤F parts m *F (whole 1 +F whole m *F square x)
 unfolding tera parts _+F_ _*F_
-one-part m x x>0 = record { left = lit< tt; right = omega (arith, mul-pos x>0 x>0); across = omega arith }
+m-parts m x x>0 = record { left = lit< tt; right = omega (arith, mul-pos x>0 x>0); across = omega arith }
 
 one-plus-squares :
     (m r q : ℕ) {x : Fraction} → Within r (whole 0) (q over tera) x →
@@ -84,7 +87,7 @@ one-plus-squares m r q {x} p =
     record { left = omega arith; right = omega arith; across = omega arith }
     in
     within-weaken (omega arith) (≤F-refl (whole 0) (lit< tt))
-    (within-absorb m (one-part m x (p .below .right)) (within-same lower upper (within-sum one squares)))
+    (within-absorb m (m-parts m x (p .below .right)) (within-same lower upper (within-sum one squares)))
 
 -- 1/(1 + m q²)
 pub inverse-close-times :

@@ -1,7 +1,6 @@
 -- Stage 8's screening against its exact value: 1/(1 + v²), from an X- within 6000 parts in 10^12 and 1, is within 22203 parts and one
 -- unit of 10^-12. Assumes nothing.
 use Prim.Native.Nat.{ℕ, _+_, _*_, _^_, _≤_, _<_}
-use native.Mathlib.Nat.{mul-pos}
 use native.Mathlib.Omega.{arith}
 use lib.Dec.{lit<, lit≤}
 use Rattle.exact.specs.Rounding.{up, down}

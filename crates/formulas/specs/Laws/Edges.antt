@@ -128,7 +128,8 @@ pub record CommonSheathStarred : Type 0 where
   pub S-least : commonLoss (reactance 1000) 407000000000000 100 50000 ≡ 497
 
 pub common-sheath-starred : CommonSheathStarred
-unfolding up down tera piHigh reactance axisRatio axisRatioSquared commonRatio commonRatioSquared isFirst firstFormula secondFormula commonLoss
+unfolding up down tera piHigh reactance axisRatio axisRatioSquared commonRatio commonRatioSquared isFirst firstFormula secondFormula
+    commonLoss
 common-sheath-starred =
     record {
       b-half = refl;

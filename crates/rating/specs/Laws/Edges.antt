@@ -52,7 +52,9 @@ pub record CommonSheathEdges : Type 0 where
   pub above-2c : geometryRefused (having-both 20 3688 13 7375) ≡ true
   pub above-2c-by-c : geometryRefused (having-both 20 3689 13 7376) ≡ true
   -- 7: any metal
-  pub metals-pass-7 : map (λ metal. metalRefused (having 14 metal)) (1 ∷ 2 ∷ 3 ∷ 4 ∷ 5 ∷ 6 ∷ []) ≡ false ∷ false ∷ false ∷ false ∷ false ∷ false ∷ []
+  pub metals-pass-7 :
+      map (λ metal. metalRefused (having 14 metal)) (1 ∷ 2 ∷ 3 ∷ 4 ∷ 5 ∷ 6 ∷ [])
+      ≡ false ∷ false ∷ false ∷ false ∷ false ∷ false ∷ []
   -- of two the earlier
   pub none-given : fieldRefusal threeCores ≡ 0
   pub conductor-before-limit : fieldRefusal (having-both 20 99 1 9) ≡ 2

@@ -1,14 +1,14 @@
 -- `stages::common_sheath::first_formula` is the definition: y2, b2, the two terms, and 3 Rs times their sum.
 use borrow.Author.Needs.{needs}
-use mathlib.Core.Path.{_≡_, _∙_, ap}
-use native.Mathlib.Nat.{mul-le-mul, add-le-add, le-trans}
+use mathlib.Core.Path.{_≡_, _∙_}
+use native.Mathlib.Nat.{mul-le-mul, le-trans}
 use native.Mathlib.Omega.{arith}
 use lib.Dec.{lit<, lit≤}
 use Prim.Native.Nat.{_+_, _*_, _≤_}
 use Rattle.exact.specs.Rounding.{up}
 use Rattle.exact.specs.Trillion.{trillion}
 use Rattle.formulas.specs.Constants.{tera}
-use Rattle.formulas.specs.CommonSheath.{firstFormulaLimit, axisRatioSquared, commonRatio, commonRatioSquared, firstFormula}
+use Rattle.formulas.specs.CommonSheath.{firstFormulaLimit, axisRatioSquared, firstFormula}
 use Rattle.formulas.specs.Laws.Ranges.{axisRatioSquared-most, commonRatio-most, commonRatioSquared-most, commonTerm-most}
 use Rattle.formulas.specs.Laws.Bounds.{mostCommonRatioSquared, mostCommonLoss}
 use Rattle.stages.proofs.Quotients.{fits-up}
@@ -35,7 +35,9 @@ terms-most c =
     let second = commonTerm-most (4 * y2) (b2-most squared) in
     omega (arith, c .before .term .ensures, c .term2 .ensures, first, second)
 
-product-most : (c : tie.After-term2) → 3 * c .before .before .before .before .args .rs * (c .before .term .result + c .term2 .result) ≤ mostCommonLoss * trillion
+product-most :
+    (c : tie.After-term2) →
+    3 * c .before .before .before .before .args .rs * (c .before .term .result + c .term2 .result) ≤ mostCommonLoss * trillion
 product-most c =
     let three≤ : 3 * c .before .before .before .before .args .rs ≤ 3 * firstFormulaLimit =
     omega (arith, c .before .before .before .before .pre .common .rs-most)

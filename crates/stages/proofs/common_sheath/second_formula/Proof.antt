@@ -28,7 +28,10 @@ scaled-requires c κs =
     subst⁻¹ (λ n. n * c .before .args .ratio < 2 ^ 128) (c .product .ensures)
     (numerator-fits _ _ (c .before .pre .b-most) (c .before .pre .ratio-most))
 
-S-is : (c : tie.After-quotient-up2) → let args = c .before .before .before .before .args in value (c .quotient-up2 .result) ≡ secondFormula (args .b) (args .rs) (args .ratio)
+S-is :
+    (c : tie.After-quotient-up2) →
+    let args = c .before .before .before .before .args in
+    value (c .quotient-up2 .result) ≡ secondFormula (args .b) (args .rs) (args .ratio)
 unfolding secondFormula tera
 S-is c =
     let start = c .before .before .before .before in

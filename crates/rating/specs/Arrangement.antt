@@ -8,6 +8,7 @@ use lib.Dec.{eqb}
 use Rattle.exact.specs.Fraction.{Fraction}
 use Rattle.formulas.specs.Dielectric.{dielectricRise, dielectricRise*}
 use Rattle.fields.specs.Fields as Field
+use Rattle.rating.specs.Within.{within}
 use Rattle.rating.specs.Values.{R, Wd}
 use Rattle.rating.specs.Chosen.{Chosen, R*, Wd*}
 
@@ -45,6 +46,10 @@ pub record Arrangement : Type 0 where
   pub X : List ℕ → ℕ
   pub numbers : List ℕ → Numbers
   pub numbers* : List ℕ → Chosen → Numbers*
+
+-- the limits of c, field 20, in a cable of three cores
+unfoldable pub axisLimits : List ℕ → Bool
+axisLimits x = within 100 50000 (Field.axisDistance x)
 
 -- fields 17, 18, 19 and 21 are zero
 unfoldable pub noArmour : List ℕ → Bool

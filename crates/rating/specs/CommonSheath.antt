@@ -6,16 +6,15 @@ use lib.Dec.{leb}
 use Rattle.exact.specs.Fraction.{whole}
 use Rattle.formulas.specs.CommonSheath.{commonLoss, commonLoss*}
 use Rattle.fields.specs.Fields as Field
-use Rattle.rating.specs.Within.{within}
 use Rattle.rating.specs.Values.{Rs, B}
 use Rattle.rating.specs.Chosen.{B*}
-use Rattle.rating.specs.Arrangement.{Arrangement, noArmour, alternating, alternating*}
+use Rattle.rating.specs.Arrangement.{Arrangement, axisLimits, noArmour, alternating, alternating*}
 
 unfoldable pub commonSheath : Arrangement
 commonSheath =
     record {
       known = true;
-      limits = λ x. within 100 50000 (Field.axisDistance x);
+      limits = axisLimits;
       unused = noArmour;
       geometry =
           λ x. leb (Field.conductorDiameter x) (Field.spacing x) && leb (2 * Field.axisDistance x) (Field.sheathDiameter x);

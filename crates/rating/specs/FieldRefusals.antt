@@ -54,7 +54,7 @@ limitRefused x = not (conductorLimits x && sheathLimits x && thermalLimits x && 
 unfoldable pub strayRefused : List ℕ → Bool
 strayRefused x = not (own x .unused x)
 
--- 5: not dc ≤ ds, or 105 ds > 100 Di, or not Di ≤ d; the arrangement adds d ≤ s and what its armour asks
+-- 5: not dc ≤ ds, or 105 ds > 100 Di, or not Di ≤ d; the arrangement adds how its cores or cables lie
 unfoldable pub geometryRefused : List ℕ → Bool
 geometryRefused x =
     not

@@ -12,15 +12,15 @@ use Rattle.fields.specs.Fields as Field
 use Rattle.rating.specs.Within.{within, withinZ}
 use Rattle.rating.specs.Values.{Rs, RA, B, X, XLow}
 use Rattle.rating.specs.Chosen.{B*, X*}
-use Rattle.rating.specs.Arrangement.{Arrangement, alternating, alternating*}
+use Rattle.rating.specs.Arrangement.{Arrangement, axisLimits, alternating, alternating*}
 
--- fields 17 to 21, which no other arrangement has
+-- fields 17 to 21
 unfoldable pub armourLimits : List ℕ → Bool
 armourLimits x =
     within 1 6 (Field.armourMetal x)
     && within 1000 20000000 (Field.armourResistance x)
     && withinZ (negℤ (pos 4000)) (pos 25000) (Field.armourTemperature x)
-    && within 100 50000 (Field.axisDistance x)
+    && axisLimits x
     && within 100 50000 (Field.armourDiameter x)
 
 unfoldable pub slType : Arrangement

@@ -7,6 +7,7 @@ use super::both_ends::both_ends_losses;
 use super::both_ends::both_ends_rules;
 use super::common_sheath::common_sheath_losses;
 use super::common_sheath::common_sheath_rules;
+use super::field_refusals::within;
 use super::judge::Shared;
 use super::one_point::one_point_losses;
 use super::one_point::one_point_rules;
@@ -44,6 +45,13 @@ pub struct Losses {
     pub x: u64,
     pub s: u64,
     pub w: u64,
+}
+
+// The limits of c in a cable of three cores.
+pub(crate) fn axis_limits(x: Case) -> bool
+    ensures { λ r. ⌜ r ≡ Arrangement.axisLimits x ⌝ }
+{
+    within(100, 50000, x[AXIS_DISTANCE])
 }
 
 // Fields 17, 18, 19 and 21 are zero.

@@ -3,9 +3,9 @@ ghost use Rattle.rating.specs.CommonSheath.{commonSheath};
 ghost use Rattle.rating.specs.Laws.Steps.{Asks, Passes, Loses};
 use super::arrangement::Losses;
 use super::arrangement::Rules;
+use super::arrangement::axis_limits;
 use super::arrangement::no_armour;
 use super::case::number;
-use super::field_refusals::within;
 use super::judge::Shared;
 use fields::AXIS_DISTANCE;
 use fields::CONDUCTOR_DIAMETER;
@@ -19,7 +19,7 @@ pub(crate) fn common_sheath_rules(x: Case) -> Rules
     ensures { λ r. ⌜ Asks commonSheath x r ⌝ }
 {
     Rules {
-        limits: within(100, 50000, x[AXIS_DISTANCE]),
+        limits: axis_limits(x),
         unused: no_armour(x),
         geometry: (x[CONDUCTOR_DIAMETER] <= x[SPACING])
             & (2 * number(x[AXIS_DISTANCE]) <= number(x[SHEATH_DIAMETER])),

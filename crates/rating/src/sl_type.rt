@@ -9,6 +9,7 @@ ghost use Rattle.rating.specs.Laws.Steps.{Asks, Passes, PassesArmoured, 
 ghost use Rattle.rating.specs.Values.{Rs, RA, B, XLow};
 use super::arrangement::Losses;
 use super::arrangement::Rules;
+use super::arrangement::axis_limits;
 use super::case::number;
 use super::case::resistance_of;
 use super::field_refusals::not_hotter;
@@ -37,7 +38,7 @@ fn armour_limits(x: Case) -> bool
     within(1, 6, x[ARMOUR_METAL])
         & within(1000, 20000000, x[ARMOUR_RESISTANCE])
         & within_signed(-4000, 25000, x[ARMOUR_TEMPERATURE])
-        & within(100, 50000, x[AXIS_DISTANCE])
+        & axis_limits(x)
         & within(100, 50000, x[ARMOUR_DIAMETER])
 }
 

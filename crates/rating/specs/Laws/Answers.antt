@@ -49,7 +49,7 @@ use Rattle.formulas.specs.Refusals.{skinRefused, eddyRefused, dielectricRefused
 use Rattle.formulas.specs.Constants.{tera, piLow, piHigh, ln2Low, ln2High, ln2ThirdHigh}
 use Rattle.formulas.specs.Logarithm.{doublings, octaves, doubled, series, firstPower, thirteenTerms, logLow, logHigh}
 use Rattle.rating.specs.Values.{R', Rs, RA, B, zs, zp, ys, G, yp, R, X, XLow, Wd, riseOf}
-use Rattle.rating.specs.Arrangement.{noArmour, armourless, alternating}
+use Rattle.rating.specs.Arrangement.{axisLimits, noArmour, armourless, alternating}
 use Rattle.rating.specs.BothEnds.{bothEnds}
 use Rattle.rating.specs.OnePoint.{onePoint}
 use Rattle.rating.specs.SlType.{armourLimits, slType}
@@ -201,7 +201,7 @@ unfolding rated sheetOf refused loaded judged fieldRefusal arrangementRefused co
     spacingLogHigh spacingLogLow sheathReactance sheathReactanceLow bondRatio bondRatioSquared circulatingLoss threeHalves slLoss
     armourRatio armourRatioSquared reducedArmourResistance unscreenedLoss screeningRatioSquared screenedLoss armourLoss dielectricLoss
     dielectricResistance dielectricRise permittedRise currentRise unitRise rating root piLow piHigh ln2Low ln2High ln2ThirdHigh tera up
-    down noArmour armourless bothEnds onePoint eddyRatio eddyRatioSquared eddyFactor eddySpacing eddyLoss commonSheath axisRatio
+    down axisLimits noArmour armourless bothEnds onePoint eddyRatio eddyRatioSquared eddyFactor eddySpacing eddyLoss commonSheath axisRatio
     axisRatioSquared commonRatio commonRatioSquared isFirst firstFormula secondFormula commonLoss
 answered =
     record {

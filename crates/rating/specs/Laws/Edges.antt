@@ -5,7 +5,7 @@ use mathlib.Core.Bool.{true, false}
 use mathlib.Core.List.{List, [], _∷_, map}
 use Prim.Native.Nat.{ℕ}
 use lib.ListN.{set}
-use Rattle.rating.specs.Arrangement.{noArmour, armourless}
+use Rattle.rating.specs.Arrangement.{axisLimits, noArmour, armourless}
 use Rattle.rating.specs.BothEnds.{bothEnds}
 use Rattle.rating.specs.CommonSheath.{commonSheath}
 use Rattle.rating.specs.Arrangements.{noArrangement, arrangementOf}
@@ -65,7 +65,7 @@ pub record CommonSheathEdges : Type 0 where
 
 pub common-sheath-edges : CommonSheathEdges
 unfolding fieldRefusal arrangementRefused conductorRefused limitRefused conductorLimits sheathLimits thermalLimits strayRefused
-    geometryRefused heatRefused metalRefused arrangementOf noArrangement bothEnds commonSheath noArmour armourless
+    geometryRefused heatRefused metalRefused arrangementOf noArrangement bothEnds commonSheath axisLimits noArmour armourless
 common-sheath-edges =
     record {
       six-passes-1 = refl;

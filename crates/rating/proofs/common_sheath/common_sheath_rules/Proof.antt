@@ -10,7 +10,7 @@ unfolding commonSheath
 returns c =
     record {
       known = refl;
-      limits = c .before .before .before .within .ensures;
+      limits = c .before .before .before .axis-limits .ensures;
       unused = c .before .before .no-armour .ensures;
       geometry = simp (c .before .number .ensures .same, c .number2 .ensures .same);
       heat = refl;
@@ -22,7 +22,6 @@ pub common-sheath-rules-spec : {M : Type 1} → statement M
 common-sheath-rules-spec =
     tie.close
     (tie.spec
-    (λ c. search needs)
     (λ c κs. search needs)
     (λ c κs. search needs)
     (λ c. search needs)

@@ -11,8 +11,8 @@ returns c =
     c .before .before .before .before .within .ensures
     and c .before .before .before .within2 .ensures
     and c .before .before .within-signed .ensures
-    and c .before .within3 .ensures
-    and c .within4 .ensures
+    and c .before .axis-limits .ensures
+    and c .within3 .ensures
 
 pub armour-limits-spec : {M : Type 1} → statement M
 armour-limits-spec =
@@ -24,7 +24,6 @@ armour-limits-spec =
     (λ c κs. search needs)
     (λ c. search needs)
     (λ c κs. search needs)
-    (λ c. search needs)
     (λ c κs. search needs)
     (λ c. search needs)
     (λ c κs. search needs)

@@ -190,7 +190,7 @@ mostCommonRatio = 15916000000000
 abbrev pub mostCommonRatioSquared : ℕ
 mostCommonRatioSquared = 253320000000000
 
--- S in arrangement 6: each of the two terms is at most Rs, and Rs at most 100 µΩ/m; above that it is less
+-- S in arrangement 6: 3 Rs times two terms that are at most 1, with an Rs of at most 100 µΩ/m; above that S is less
 abbrev pub mostCommonLoss : ℕ
 mostCommonLoss = 6000000000000
 

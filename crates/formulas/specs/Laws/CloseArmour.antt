@@ -1,7 +1,7 @@
 -- Stage 8 against its exact values. The ratio y is rounded down and known to some parts in 10^12, so 1/(1 + y²) is as well; W itself
 -- may be small, so the units of its factors stay absolute. Assumes nothing.
 use Prim.Native.Nat.{ℕ, _+_, _*_, _^_, _≤_, _<_}
-use native.Mathlib.Nat.{mul-pos, mul-le-mul}
+use native.Mathlib.Nat.{mul-pos}
 use native.Mathlib.Omega.{arith}
 use lib.Dec.{lit<, lit≤}
 use Rattle.exact.specs.Rounding.{up, down}
@@ -20,6 +20,7 @@ use Rattle.exact.specs.Laws.RoundingError.{within-up}
 use Rattle.exact.specs.Trillion.{trillion}
 use Rattle.formulas.specs.Constants.{tera, IsPi}
 use Rattle.formulas.specs.Reactance.{reactance, reactance*}
+use Rattle.formulas.specs.CommonSheath.{axisRatio*}
 use Rattle.formulas.specs.Armour.{
   armourRatio,
   armourRatioSquared,
@@ -36,6 +37,7 @@ use Rattle.formulas.specs.Armour.{
 use Rattle.formulas.specs.Laws.Ranges.{In, reactance-range, reducedArmourResistance-most, unscreenedLoss-most}
 use Rattle.formulas.specs.Laws.Bounds.{leastSheathResistance, mostResistance, leastSheathReactanceLow, mostArmourLoss}
 use Rattle.formulas.specs.Laws.CloseInverse.{over-reactance-close, inverse-close, inverse-most}
+use Rattle.formulas.specs.Laws.CloseCommonSheath.{axisRatio*-most}
 use Rattle.formulas.specs.Laws.CloseScreening.{screeningRatio-close, screening-close}
 use Rattle.formulas.specs.Laws.OverT.{quotient-close}
 
@@ -65,13 +67,10 @@ reducedArmourResistance-close {π} {f} {ra} pi range ra-in =
     within-weaken (lit≤ tt) (closed≤ tt)
     (within-trans (within-same (≃F-refl _ (scaled .below .left)) same scaled) (within-up (ra * 10 ^ 12) (omega arith)))
 
-spacing-most : (c : ℕ) {dA : ℕ} → 0 < dA → 2 * c ≤ dA → 4 * (c * c) over dA * dA ≤F whole 1
-spacing-most c dA>0 c≤ = record { left = mul-pos dA>0 dA>0; right = lit< tt; across = omega (arith, mul-le-mul c≤ c≤) }
-
 pub unscreened-close :
     (c : ℕ) {π : Fraction} {f ra dA : ℕ} → IsPi π → In 1000 6500 f → In leastSheathResistance mostResistance ra → 0 < dA → 2 * c ≤ dA →
     Within 491 (whole 503) (unscreenedLoss* ra (reactance* π f) c dA) (whole (unscreenedLoss ra (reactance f) c dA))
-unfolding unscreenedLoss unscreenedLoss* tera _+F_ _*F_
+unfolding unscreenedLoss unscreenedLoss* axisRatio* tera _+F_ _*F_
 unscreened-close c {π} {f} {ra} {dA} pi range ra-in dA>0 c≤ =
     let r = reducedArmourResistance ra (reactance f) in
     let s = up (4 * (c * c) * 10 ^ 12) (dA * dA) in
@@ -79,7 +78,7 @@ unscreened-close c {π} {f} {ra} {dA} pi range ra-in dA>0 c≤ =
     record { left = lit< tt; right = lit< tt; across = omega (arith, reducedArmourResistance-most ra (reactance f), ra-in .most) }
     in
     let first = within-times (≤F-refl (123 over 100) (lit< tt)) (reducedArmourResistance-close pi range ra-in) in
-    let both = within-product (spacing-most c dA>0 c≤) r≤ first (quotient-close (4 * (c * c)) (mul-pos dA>0 dA>0)) in
+    let both = within-product (axisRatio*-most c dA>0 c≤) r≤ first (quotient-close (4 * (c * c)) (mul-pos dA>0 dA>0)) in
     let lower :
     reducedArmourResistance* ra (reactance* π f) *F (123 over 100) *F (4 * (c * c) over dA * dA) ≃F
     (123 over 100) *F reducedArmourResistance* ra (reactance* π f) *F (4 * (c * c) over dA * dA) =

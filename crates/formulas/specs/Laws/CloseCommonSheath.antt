@@ -52,7 +52,7 @@ axisRatio-close : (c : ℕ) {d : ℕ} → 0 < d → Close 0 1 (axisRatio* c d) (
 unfolding axisRatio axisRatio*
 axisRatio-close c d>0 = quotient-close (4 * (c * c)) (mul-pos d>0 d>0)
 
-axisRatio*-most : (c : ℕ) {d : ℕ} → 0 < d → 2 * c ≤ d → axisRatio* c d ≤F whole 1
+pub axisRatio*-most : (c : ℕ) {d : ℕ} → 0 < d → 2 * c ≤ d → axisRatio* c d ≤F whole 1
 unfolding axisRatio*
 axisRatio*-most c d>0 c≤ = record { left = mul-pos d>0 d>0; right = lit< tt; across = omega (arith, mul-le-mul c≤ c≤) }
 

@@ -96,6 +96,7 @@ pub inverse-close-times :
 unfolding tera reciprocal
 inverse-close-times m r q p = within-relative-reciprocal (omega arith) (one-plus-squares m r q p)
 
+-- 1/(1 + q²)
 pub inverse-close :
     (r q : ℕ) {x : Fraction} → Within r (whole 0) (q over tera) x →
     Within (r + r + 1) (whole 0) (reciprocal (whole 1 +F square x)) (tera over tera + down (q * q) tera)

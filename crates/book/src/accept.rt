@@ -1,7 +1,8 @@
-// Accepting a book: every record is its case's rating.
+// Accepting a book: every record is its case's rating, or the first that is not is named.
 ghost use mathlib.Core.Path.{_≡_};
 ghost use Rattle.book_laws.specs.Accept;
-ghost use Rattle.book.specs.Answers.{AcceptAnswers, acceptanceOf};
+ghost use Rattle.book_laws.specs.Book.{acceptOf};
+ghost use Rattle.book.specs.Answers.{acceptanceOf};
 use book_bytes::layout::RECORD_LENGTH;
 use book_bytes::record::record_agrees;
 use book_bytes::trailer::describe_book;
@@ -26,7 +27,7 @@ fn unaccepted(number: u32, named: usize) -> Acceptance
 }
 
 pub fn accept(buffer: &[u8], used: usize) -> Acceptance
-    ensures { λ r. ⌜ AcceptAnswers (now (buffer .entry)) used r ⌝ }
+    ensures { λ r. ⌜ acceptanceOf r ≡ acceptOf (now (buffer .entry)) used ⌝ }
 {
     let d = describe_book(buffer, used);
     if d.number != 0 {
@@ -34,12 +35,13 @@ pub fn accept(buffer: &[u8], used: usize) -> Acceptance
     }
     let count = d.count;
     let first = d.first;
-    let mut i = 0;
-    while i < count {
+    let mut rest = count;
+    while 0 < rest {
+        let i = count - rest;
         if !record_agrees(buffer, first + RECORD_LENGTH * i) {
             return unaccepted(23, i + 1);
         }
-        i += 1;
+        rest -= 1;
     }
     Acceptance {
         number: 0,

@@ -17,8 +17,7 @@ pub record AppendedIn (l : Layout) (b : List ℕ) (used : ℕ) (x : List ℕ) (w
   pub used-is : w .used ≡ used + recordLength l
   -- accepted, with one record more and the same note
   pub accepted :
-      (k : ℕ) →
-      acceptIn l (w .bytes) (w .used) k
+      acceptIn l (w .bytes) (w .used)
       ≡ record { number = 0; count = describeIn l b used .count + 1; note = describeIn l b used .first; named = 0 }
   pub reads-before : (i : ℕ) → i < describeIn l b used .count → readIn l (w .bytes) (w .used) i ≡ readIn l b used i
   pub reads-last : readIn l (w .bytes) (w .used) (describeIn l b used .count) ≡ record { number = 0; fields = fieldsOf l x }

@@ -6,7 +6,7 @@ use Rattle.book_laws.specs.Trailer.{Description, describeIn}
 use Rattle.book_laws.specs.Start.{Written, startIn}
 use Rattle.book_laws.specs.Append.{appendIn}
 use Rattle.book_laws.specs.Read.{Fields, readIn, casesReadIn}
-use Rattle.book_laws.specs.Accept.{Acceptance, acceptIn, AcceptedIn, DiffersIn}
+use Rattle.book_laws.specs.Accept.{Acceptance, acceptIn, AcceptedIn, DisagreesFirstIn}
 use Rattle.book_laws.specs.Build.{buildIn}
 use Rattle.book_laws.specs.Built.{builtIn, FitsIn, KeptIn}
 use Rattle.book_laws.specs.Appended.{AppendedIn}
@@ -34,15 +34,15 @@ readOf b used index = readIn (layoutOf b used) b used index
 abbrev pub casesOf : List ℕ → ℕ → List (List ℕ)
 casesOf b used = casesReadIn (layoutOf b used) b used (describe b used .count)
 
--- k is the record that 23 names
-abbrev pub acceptOf : List ℕ → ℕ → ℕ → Acceptance
-acceptOf b used k = acceptIn (layoutOf b used) b used k
+abbrev pub acceptOf : List ℕ → ℕ → Acceptance
+acceptOf b used = acceptIn (layoutOf b used) b used
 
 abbrev pub Accepted : List ℕ → ℕ → Type 0
 Accepted b used = AcceptedIn (layoutOf b used) b used
 
-abbrev pub Differs : List ℕ → ℕ → ℕ → Type 0
-Differs b used k = DiffersIn (layoutOf b used) b used k
+-- record k, from 1, is the one that 23 names
+abbrev pub DisagreesFirst : List ℕ → ℕ → ℕ → Type 0
+DisagreesFirst b used k = DisagreesFirstIn (layoutOf b used) b used k
 
 -- w is what appending the case x to the accepted book in b left
 abbrev pub Appended : List ℕ → ℕ → List ℕ → Written → Type 0

@@ -30,7 +30,7 @@ pub record FitsIn (l : Layout) (b : List ℕ) (note n : ℕ) : Type 0 where
 pub record KeptIn (l : Layout) (b : List ℕ) (note : ℕ) (xs : List (List ℕ)) (w : Written) : Type 0 where
   pub used : w .used ≡ usedFor l note (length xs)
   pub reads : (i : ℕ) → i < length xs → readIn l (w .bytes) (w .used) i ≡ record { number = 0; fields = fieldsOf l (getD xs i []) }
-  pub accepted : (k : ℕ) → acceptIn l (w .bytes) (w .used) k ≡ record { number = 0; count = length xs; note = note; named = 0 }
+  pub accepted : acceptIn l (w .bytes) (w .used) ≡ record { number = 0; count = length xs; note = note; named = 0 }
   pub note-untouched : take note (w .bytes) ≡ take note b
   pub rest-untouched : drop (w .used) (w .bytes) ≡ drop (w .used) b
   pub as-long : length (w .bytes) ≡ length b

@@ -5,6 +5,7 @@ pub mod Bytes
 pub mod Lawful
 pub mod Trailer
 pub mod Record
+pub mod Disagreeing
 pub mod Accept
 pub mod First
 pub mod Refused
@@ -16,6 +17,8 @@ pub mod Rebuild
 pub mod Appended
 pub mod Margin
 pub mod Demands
+pub mod Judged
 pub mod Literal
 pub mod Instances
 pub mod CommonSheath
+pub mod Named

@@ -1,7 +1,9 @@
-// Prints the listing of a small book, without a note and with one case of zeros, and of a book for each
-// of the refusals 20, 21, 22 and 23: a used length past the buffer, and the small book with one byte
-// changed.
+// Prints the listing of a small book, without a note and with one case of zeros, of a book for each of
+// the refusals 20, 21, 22 and 23: a used length past the buffer, and the small book with one byte
+// changed; and of books of four such cases in which up to three records disagree, at the first, the
+// last and adjacent places.
 ghost use mathlib.Core.Path.{_≡_};
+ghost use Prim.Native.Nat.{_≤_, _<_};
 ghost use lib.ListN.{length};
 use book::append::append;
 use book::start::start;
@@ -14,11 +16,28 @@ use output::send;
 // The used length of the small book.
 const USED: usize = RECORD_LENGTH + TRAILER_LENGTH;
 
+fn write_case(book: &mut [u8], used: usize) -> usize
+    ensures { λ _. ⌜ length (now (book .exit)) ≡ length (now (book .entry)) ⌝ }
+{
+    let appended = append(book, used, [0; WIDTH]);
+    appended.used
+}
+
 fn write_example(book: &mut [u8])
     ensures { λ _. ⌜ length (now (book .exit)) ≡ length (now (book .entry)) ⌝ }
 {
     let started = start(book, 0);
-    append(book, started.used, [0; WIDTH]);
+    write_case(book, started.used);
+}
+
+fn write_longer_example(book: &mut [u8])
+    ensures { λ _. ⌜ length (now (book .exit)) ≡ length (now (book .entry)) ⌝ }
+{
+    let started = start(book, 0);
+    let one = write_case(book, started.used);
+    let two = write_case(book, one);
+    let three = write_case(book, two);
+    write_case(book, three);
 }
 
 fn change(book: &mut [u8], at: usize, byte: u8)
@@ -45,8 +64,20 @@ fn changed_example(at: usize, byte: u8) -> [u8; 65536] {
 
 fn show(book: &[u8; 65536], used: usize) {
     let mut out = io::large_buffer();
-    let listed = list_book(book, used, &mut out);
-    send(&out, listed.len);
+    let len = list_book(book, used, &mut out);
+    send(&out, len);
+}
+
+// Four cases, and another rating in three of their records, counted from 1; two may be the same.
+fn show_disagreeing(first: usize, second: usize, third: usize)
+    requires { ⌜ (0 < first) × (first ≤ 4) × (0 < second) × (second ≤ 4) × (0 < third) × (third ≤ 4) ⌝ }
+{
+    let mut book = io::large_buffer();
+    write_longer_example(&mut book);
+    change(&mut book, RECORD_LENGTH * first - 1, 1);
+    change(&mut book, RECORD_LENGTH * second - 1, 1);
+    change(&mut book, RECORD_LENGTH * third - 1, 1);
+    show(&book, 4 * RECORD_LENGTH + TRAILER_LENGTH);
 }
 
 fn main() {
@@ -59,4 +90,10 @@ fn main() {
     show(&another_length, USED);
     let another_rating = changed_example(RECORD_LENGTH - 1, 1);
     show(&another_rating, USED);
+    show_disagreeing(4, 4, 4);
+    show_disagreeing(1, 4, 4);
+    show_disagreeing(1, 2, 2);
+    show_disagreeing(2, 3, 3);
+    show_disagreeing(3, 4, 4);
+    show_disagreeing(4, 2, 1);
 }

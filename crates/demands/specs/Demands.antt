@@ -25,7 +25,7 @@ use Rattle.rating.specs.Laws.Logarithms.{lowest, lowest-allowed}
 use Rattle.book_laws.specs.Bytes.{below, wordsAt}
 use Rattle.book_laws.specs.Layout.{recordFields, recordLength, trailerLength}
 use Rattle.book_laws.specs.Format.{recordBytes, trailerBytes}
-use Rattle.book_laws.specs.Record.{placeFrom}
+use Rattle.book_laws.specs.Record.{placeFrom, firstDisagreeing}
 use Rattle.book_laws.specs.Refusals.{startRefusals, trailerOf, appendRefusals, readRefusals, acceptRefusals}
 use Rattle.book_laws.specs.Start.{Written, unwritten}
 use Rattle.book_laws.specs.Read.{unread}
@@ -40,6 +40,7 @@ use Rattle.book_laws.specs.Book.{
   readOf,
   acceptOf,
   Accepted,
+  DisagreesFirst,
   Appended,
   casesOf,
   build,
@@ -81,18 +82,21 @@ pub record Demand1 : Type 0 where
       readOf b used index
       ≡ orRefused (λ n. record { number = n; fields = replicate 28 0 }) (readRefusals l b used index)
       (record { number = 0; fields = wordsAt b (placeFrom l first index) (recordFields l) })
-  -- refusal 23 names a record k; which one is free, and the contract of `accept` says that it differs from its case's rating (`Differs`)
+  -- refusal 23 names the first record that is not its case's rating, from 1
   pub accept :
-      (b : List ℕ) (used k : ℕ) →
+      (b : List ℕ) (used : ℕ) →
       let l = layoutOf b used in
       let d = trailerOf l b used in
-      acceptOf b used k
-      ≡ orRefused (λ n. record { number = n; count = 0; note = 0; named = cond (eqb n 23) k 0 }) (acceptRefusals l b used)
+      let named = firstDisagreeing l b (d .first) (d .count) + 1 in
+      acceptOf b used
+      ≡ orRefused (λ n. record { number = n; count = 0; note = 0; named = cond (eqb n 23) named 0 }) (acceptRefusals l b used)
       (record { number = 0; count = d .count; note = d .first; named = 0 })
   -- in short
   pub refused-case : (x : List ℕ) → (rateOf x .number ≡ 0 → ⊥) → (rateOf x .rating ≡ 0) × (rateOf x .sheet ≡ replicate 13 0)
   pub refused-start : (b : List ℕ) (note : ℕ) → (startOf b note .number ≡ 0 → ⊥) → startOf b note .bytes ≡ b
   pub refused-append : (b : List ℕ) (used : ℕ) (x : List ℕ) → (appendOf b used x .number ≡ 0 → ⊥) → appendOf b used x .bytes ≡ b
+  -- every record before the one that 23 names agrees, and it does not
+  pub first-named : (b : List ℕ) (used : ℕ) → acceptOf b used .number ≡ 23 → DisagreesFirst b used (acceptOf b used .named)
 
 pub demand-1 : Demand1
 unfolding refused unwritten unread unaccepted
@@ -106,6 +110,7 @@ demand-1 =
       refused-case = λ x given. let zeros = refused-zeros x given in (zeros .rating, zeros .sheet);
       refused-start = λ b note given. ap (λ (w : Written). w .bytes) (Law.start-refused b note given);
       refused-append = λ b used x given. Law.append-refused b used x given .bytes-stay;
+      first-named = Law.first-named;
     }
 
 -- Each rating and sheet number is that of the stages. Cases appended to a fresh book read back as they were. An accepted book built again
@@ -119,11 +124,11 @@ pub record Demand2 : Type 0 where
   pub fits :
       (b : List ℕ) (note : ℕ) (xs : List (List ℕ)) → allCases newLayout xs ≡ true → Fits b note (length xs) →
       build b note xs ≡ built b note xs
-  -- what accept accepts, whichever record 23 would name, with the count and the note's length of its trailer
-  pub accepted : (b : List ℕ) (used k : ℕ) → acceptOf b used k .number ≡ 0 → Accepted b used
+  -- what accept accepts, with the count and the note's length of its trailer
+  pub accepted : (b : List ℕ) (used : ℕ) → acceptOf b used .number ≡ 0 → Accepted b used
   pub accepts :
-      (b : List ℕ) (used k : ℕ) → Accepted b used →
-      acceptOf b used k ≡ record { number = 0; count = describe b used .count; note = describe b used .first; named = 0 }
+      (b : List ℕ) (used : ℕ) → Accepted b used →
+      acceptOf b used ≡ record { number = 0; count = describe b used .count; note = describe b used .first; named = 0 }
   -- in a buffer c that is long enough and has the note at its front; what stood behind stays
   pub rebuilt :
       (b : List ℕ) (used : ℕ) → below 256 b ≡ true → Accepted b used → (c : List ℕ) → used ≤ length c →

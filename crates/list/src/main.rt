@@ -19,6 +19,6 @@ fn main() {
     let mut book = io::large_buffer();
     let mut out = io::large_buffer();
     let used = io::read_full(STDIN_FILENO, &mut book);
-    let listed = list_text::list_book(&book, used + following(used), &mut out);
-    send(&out, listed.len);
+    let len = list_text::list_book(&book, used + following(used), &mut out);
+    send(&out, len);
 }

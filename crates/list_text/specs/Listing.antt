@@ -1,5 +1,5 @@
 -- docs/BOOK.md, the listing of a book: `book` with the count and one line a record, its number from 1, answer and rating; or the refusal's
--- number, and for 23 also the record that accept named. Each line ends in a line feed. Assumes nothing.
+-- number, and for 23 also the first record that disagrees. Each line ends in a line feed. Assumes nothing.
 use mathlib.Core.Bool.{cond}
 use mathlib.Core.List.{List, [], _∷_, _++_}
 use Prim.Native.Nat.{ℕ, zero, suc, _+_}
@@ -40,6 +40,5 @@ listingFor l b a =
     cond (eqb (a .number) 0) (bookLine (a .count) ++ recordLines l b (a .note) (a .count))
     (cond (eqb (a .number) 23) (disagreesLine (a .named)) (refusedLine (a .number)))
 
--- k is the record that 23 names
-unfoldable pub listingOf : List ℕ → ℕ → ℕ → List ℕ
-listingOf b used k = listingFor (layoutOf b used) b (acceptOf b used k)
+unfoldable pub listingOf : List ℕ → ℕ → List ℕ
+listingOf b used = listingFor (layoutOf b used) b (acceptOf b used)

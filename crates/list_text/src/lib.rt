@@ -6,7 +6,6 @@ ghost use mathlib.Core.Path.{_≡_};
 ghost use Prim.Native.Nat.{_+_, _*_, _≤_};
 ghost use lib.ListN.{length};
 ghost use Rattle.book.specs.Answers.{acceptanceOf};
-ghost use Rattle.book_laws.specs.Book.{acceptOf, Differs};
 ghost use Rattle.book_laws.specs.Layout.{rbk1};
 ghost use Rattle.list_text.specs.Listing.{recordLine, recordLines, listingFor, listingOf};
 ghost use Rattle.list_text.specs.Laws.Steps.{LineFits, LinesFit};
@@ -95,24 +94,13 @@ fn put_listing(out: &mut [u8], book: &[u8], a: Acceptance) -> usize
     put_line(out, 0, b"refused ", a.number as u64)
 }
 
-// How many bytes the listing has, and the record that accept named, for 23.
-pub struct Listed {
-    pub len: usize,
-    pub named: usize,
-}
-
 // Writes the listing of a book at the front of `out`, which has room for that of any book in 65536
-// bytes. A used length over 65536 is refused by 20.
-pub fn list_book(book: &[u8; 65536], used: usize, out: &mut [u8; 65536]) -> Listed
-    ensures { λ r. ⌜ (r .len ≡ length (listingOf (now (book .entry)) used (r .named)))
-        × (now (out .exit) ≡ splice (now (out .entry)) 0 (listingOf (now (book .entry)) used (r .named))) ⌝ }
-    ensures { λ r. ⌜ (acceptOf (now (book .entry)) used (r .named) .number ≡ 23
-        → Differs (now (book .entry)) used (r .named)) ⌝ }
-    ensures { λ r. ⌜ (r .len ≤ 65536) × (65536 ≡ length (now (out .exit))) ⌝ }
+// bytes, and answers how many bytes it has. A used length over 65536 is refused by 20.
+pub fn list_book(book: &[u8; 65536], used: usize, out: &mut [u8; 65536]) -> usize
+    ensures { λ r. ⌜ (r ≡ length (listingOf (now (book .entry)) used))
+        × (now (out .exit) ≡ splice (now (out .entry)) 0 (listingOf (now (book .entry)) used)) ⌝ }
+    ensures { λ r. ⌜ (r ≤ 65536) × (65536 ≡ length (now (out .exit))) ⌝ }
 {
     let a = accept(book, used);
-    Listed {
-        len: put_listing(out, book, a),
-        named: a.named,
-    }
+    put_listing(out, book, a)
 }

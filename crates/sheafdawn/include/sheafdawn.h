@@ -16,7 +16,7 @@ extern "C" {
 #define SHEAFDAWN_CASE 26        /* words of a case */
 #define SHEAFDAWN_RATED 14       /* the rating in mA, and the 13 numbers of the sheet */
 #define SHEAFDAWN_RECORD 28      /* the case, the answer and the rating */
-#define SHEAFDAWN_ACCEPTED 3     /* the count, the note's length, and the record that 23 names */
+#define SHEAFDAWN_ACCEPTED 3     /* the count, the note's length, and for 23 the first record that disagrees */
 #define SHEAFDAWN_WRONG_LENGTH UINT32_MAX
 
 /* The fields of a case; docs/RATING.md has their units and limits, and the codes. */
@@ -143,7 +143,8 @@ uint32_t sheafdawn_append(uint8_t *buffer, size_t length, size_t used, const uin
 /* Reads the record of an index from 0, as written: out_length is 28. */
 uint32_t sheafdawn_read(const uint8_t *buffer, size_t length, size_t used, size_t index, uint32_t *out, size_t out_length);
 
-/* Accepts a book: out_length is 3. */
+/* Accepts a book: out_length is 3. Where it answers 23, the first two numbers are 0 and the third is the first record, counted from 1,
+   whose answer or rating is not its case's. */
 uint32_t sheafdawn_accept(const uint8_t *buffer, size_t length, size_t used, size_t *out, size_t out_length);
 
 #ifdef __cplusplus

@@ -180,7 +180,8 @@ pub struct Accepted {
     pub note: usize,
 }
 
-/// A refusal's number, and the record, from 1, that refusal 23 names; 0 for the others.
+/// A refusal's number, and for 23 the first record, counted from 1, whose answer or
+/// rating is not its case's; 0 for the others.
 #[derive(Clone, Copy, Debug, PartialEq, Eq)]
 pub struct Refused {
     pub number: u32,

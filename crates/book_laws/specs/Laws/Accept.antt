@@ -1,5 +1,5 @@
--- Accept accepts a book, whichever record 23 would name, where it is an accepted one, and only there; and how large the count of a book
--- is, accepted or not. Assumes nothing.
+-- Accept accepts a book where it is an accepted one, and only there; and how large the count of a book is, accepted or not.
+-- Assumes nothing.
 use mathlib.Core.Bool.{Bool, true, false, cond}
 use mathlib.Core.List.{List}
 use mathlib.Core.Path.{_≡_, refl, _∙_}
@@ -23,18 +23,18 @@ unfolding unaccepted
 agreed true k rest e = refl
 agreed false k rest e = absurd (suc-ne-zero 22 e)
 
-module _ (l : Layout) (b : List ℕ) (used k : ℕ) where
-  pub acceptedIn : acceptIn l b used k .number ≡ 0 → AcceptedIn l b used
+module _ (l : Layout) (b : List ℕ) (used : ℕ) where
+  pub acceptedIn : acceptIn l b used .number ≡ 0 → AcceptedIn l b used
   unfolding acceptIn acceptAfter unaccepted
   acceptedIn =
       let d = describeIn l b used in
-      onBook-by (λ (a : Acceptance). a .number ≡ 0 → AcceptedIn l b used) l b used _ (λ e. acceptAfter l e b k)
-      (λ none e. record { trailer-right = none; all-agree = agreed (allAgree l b (d .first) (d .count)) k _ e })
+      onBook-by (λ (a : Acceptance). a .number ≡ 0 → AcceptedIn l b used) l b used _ (λ e. acceptAfter l e b)
+      (λ none e. record { trailer-right = none; all-agree = agreed (allAgree l b (d .first) (d .count)) _ _ e })
       (λ given e. absurd (given e))
 
   pub acceptsIn :
       let d = describeIn l b used in
-      AcceptedIn l b used → acceptIn l b used k ≡ record { number = 0; count = d .count; note = d .first; named = 0 }
+      AcceptedIn l b used → acceptIn l b used ≡ record { number = 0; count = d .count; note = d .first; named = 0 }
   unfolding acceptIn acceptAfter
   acceptsIn fine = onBook-on l b used _ _ refl (fine .trailer-right) ∙ simp (fine .all-agree)
 
@@ -42,13 +42,13 @@ module _ (l : Layout) (b : List ℕ) (used k : ℕ) where
   unfolding unaccepted
   none-counted n j = record { within = omega arith; most = omega arith }
 
-  pub count-within : Counted l b (acceptIn l b used k)
+  pub count-within : Counted l b (acceptIn l b used)
   unfolding acceptIn acceptAfter
   count-within =
-      onBook-by (Counted l b) l b used _ (λ e. acceptAfter l e b k)
+      onBook-by (Counted l b) l b used _ (λ e. acceptAfter l e b)
       (λ none.
       let told = described l b used none in
       either (Counted l b) (allAgree l b (describeIn l b used .first) (describeIn l b used .count)) _ _
       (record { within = omega (arith, told .places, told .used-most); most = told .most })
-      (none-counted 23 k))
+      (none-counted 23 _))
       (λ given. none-counted (describeIn l b used .number) _)

@@ -97,7 +97,7 @@ module _ {l : Layout} (lawful : Lawful l) (b : List ℕ) (used : ℕ) (bytes : b
       let fields : List ℕ → Fields = λ y. record { number = 0; fields = fieldsOf l y } in
       record {
         used-is = kept .used ∙ omega (arith, ap (λ (n : ℕ). recordLength l * n) more-is, described l b used (fine .trailer-right) .places);
-        accepted = λ k. kept .accepted k ∙ ap (λ (n : ℕ). record { number = 0; count = n; note = note; named = 0 }) more-is;
+        accepted = kept .accepted ∙ ap (λ (n : ℕ). record { number = 0; count = n; note = note; named = 0 }) more-is;
         reads-before = λ i h.
             kept .reads i (omega (arith, more-is, h))
             ∙ ap fields (List·getD-append cases (x ∷ []) [] i (omega (arith, n-is, h)))

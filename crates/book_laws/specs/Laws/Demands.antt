@@ -3,8 +3,9 @@
 -- of any lawful layout. Assumes nothing.
 use mathlib.Core.Bool.{true}
 use mathlib.Core.List.{List, [], _∷_, _++_}
-use mathlib.Core.Path.{_≡_}
+use mathlib.Core.Path.{_≡_, sym, _∙_}
 use Prim.Native.Nat.{ℕ, _≤_, _<_}
+use native.Mathlib.Nat.{suc-ne-zero}
 use native.Mathlib.Omega.{arith}
 use lib.ListN.{length, getD, take, drop}
 use Rattle.rating.specs.Rate.{rateOf}
@@ -22,6 +23,7 @@ use Rattle.book_laws.specs.Book.{
   casesOf,
   acceptOf,
   Accepted,
+  DisagreesFirst,
   Appended,
   build,
   built,
@@ -53,16 +55,16 @@ module _ (b : List ℕ) (note : ℕ) (xs : List (List ℕ)) (cases : allCases ne
   pub kept : build b note xs .number ≡ 0 → Kept b note xs (build b note xs)
   kept = keptIn rbk1-lawful b note xs cases
 
--- Accept accepts the accepted books, whichever record 23 would name.
+-- Accept accepts the accepted books.
 
-module _ (b : List ℕ) (used k : ℕ) where
-  pub accepted : acceptOf b used k .number ≡ 0 → Accepted b used
-  accepted = acceptedIn (layoutOf b used) b used k
+module _ (b : List ℕ) (used : ℕ) where
+  pub accepted : acceptOf b used .number ≡ 0 → Accepted b used
+  accepted = acceptedIn (layoutOf b used) b used
 
   pub accepts :
       let d = describe b used in
-      Accepted b used → acceptOf b used k ≡ record { number = 0; count = d .count; note = d .first; named = 0 }
-  accepts = acceptsIn (layoutOf b used) b used k
+      Accepted b used → acceptOf b used ≡ record { number = 0; count = d .count; note = d .first; named = 0 }
+  accepts = acceptsIn (layoutOf b used) b used
 
 -- the cases from which an accepted book is built again are those that `read` answers, each with its answer and its rating
 pub cases-as-read :
@@ -114,5 +116,8 @@ module _ (b : List ℕ) where
   pub read-refused : (used i : ℕ) → (readOf b used i .number ≡ 0 → ⊥) → Unread 28 (readOf b used i)
   read-refused used = readIn-refused (layoutOf b used) b used
 
-  pub accept-refused : (used k : ℕ) → (acceptOf b used k .number ≡ 0 → ⊥) → Unaccepted k (acceptOf b used k)
+  pub accept-refused : (used : ℕ) → (acceptOf b used .number ≡ 0 → ⊥) → Unaccepted (layoutOf b used) b used (acceptOf b used)
   accept-refused used = acceptIn-refused (layoutOf b used) b used
+
+  pub first-named : (used : ℕ) → acceptOf b used .number ≡ 23 → DisagreesFirst b used (acceptOf b used .named)
+  first-named used is-23 = accept-refused used (λ none. suc-ne-zero 22 (sym is-23 ∙ none)) .names is-23

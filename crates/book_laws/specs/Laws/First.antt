@@ -13,7 +13,7 @@ use Rattle.book_laws.specs.Bytes.{stands, wordsAt}
 use Rattle.book_laws.specs.Layout.{Layout, recordFields, recordLength, trailerLength}
 use Rattle.book_laws.specs.Format.{recordBytes, trailerBytes, countAt, distanceAt, lengthAt}
 use Rattle.book_laws.specs.Trailer.{Description, undescribed, wrongTrailer, describeAt, describeIn, onBookIn}
-use Rattle.book_laws.specs.Record.{placeFrom, allAgree}
+use Rattle.book_laws.specs.Record.{placeFrom, allAgree, firstDisagreeing}
 use Rattle.book_laws.specs.Start.{unwritten, startIn}
 use Rattle.book_laws.specs.Append.{appendAfter, appendIn}
 use Rattle.book_laws.specs.Read.{unread, readAfter, readIn}
@@ -91,19 +91,23 @@ module _ (l : Layout) (b : List ℕ) (used : ℕ) where
       on-book-by-refusals (unread l) (λ e. readAfter l e b index) l b used
       ∙ sym (orRefused-append (unread l) (trailerRefusals l b used) _ _)
 
-  -- k is the record that 23 names
-  pub accept-by-refusals :
-      (k : ℕ) →
+  -- 23 names the first record that disagrees, the others none
+  abbrev unaccepted-by : ℕ → Acceptance
+  unaccepted-by n =
       let d = trailerOf l b used in
-      acceptIn l b used k
-      ≡ orRefused (λ n. unaccepted n (cond (eqb n 23) k 0)) (acceptRefusals l b used)
+      unaccepted n (cond (eqb n 23) (firstDisagreeing l b (d .first) (d .count) + 1) 0)
+
+  pub accept-by-refusals :
+      let d = trailerOf l b used in
+      acceptIn l b used
+      ≡ orRefused unaccepted-by (acceptRefusals l b used)
       (record { number = 0; count = d .count; note = d .first; named = 0 })
   unfolding orRefused trailerRefusals acceptRefusals acceptIn acceptAfter
-  accept-by-refusals k =
+  accept-by-refusals =
       let d = trailerOf l b used in
-      let refuse : ℕ → Acceptance = λ n. unaccepted n (cond (eqb n 23) k 0) in
-      on-book-by-refusals (λ n. unaccepted n 0) (λ e. acceptAfter l e b k) l b used
-      ∙ ap (λ (rest : Acceptance). orRefused refuse (trailerRefusals l b used) rest) (turned (allAgree l b (d .first) (d .count)) _ _)
+      on-book-by-refusals (λ n. unaccepted n 0) (λ e. acceptAfter l e b) l b used
+      ∙ ap (λ (rest : Acceptance). orRefused unaccepted-by (trailerRefusals l b used) rest)
+      (turned (allAgree l b (d .first) (d .count)) _ _)
     where
       turned : (all : Bool) (a r : Acceptance) → cond all a r ≡ cond (not all) r a
       turned true a r = refl

@@ -44,11 +44,11 @@ use Rattle.book_laws.specs.Laws.Demands.{
 use Rattle.book_laws.specs.Laws.Literal.{small-book, fresh-book, literal, edges}
 
 fine : Accepted small-book 130
-fine = accepted small-book 130 0 (ap (λ a. a .number) (literal .accepts 0))
+fine = accepted small-book 130 (ap (λ a. a .number) (literal .accepts))
 
-accepts-it : acceptOf small-book 130 7 ≡ record { number = 0; count = 1; note = 2; named = 0 }
+accepts-it : acceptOf small-book 130 ≡ record { number = 0; count = 1; note = 2; named = 0 }
 unfolding describeIn describeAt wrongTrailer stands numberAt
-accepts-it = accepts small-book 130 7 fine
+accepts-it = accepts small-book 130 fine
 
 reads-it : readOf small-book 130 0 ≡ record { number = 0; fields = cable ++ (rateOf cable .number ∷ rateOf cable .rating ∷ []) }
 unfolding describeIn describeAt wrongTrailer stands casesReadIn readIn readAfter onBookIn wordsAt numberAt
@@ -105,7 +105,7 @@ second-record : Appended one-record 130 (replicate 26 0) (appendOf one-record 13
 unfolding allCases appendIn appendAfter onBookIn describeIn describeAt wrongTrailer stands numberAt below splice fieldsOf recordBytes
     wordsBytes numberBytes trailerBytes
 second-record =
-    appended one-record 130 (first-record .still-bytes) (accepted one-record 130 0 (ap (λ a. a .number) (first-record .accepted 0)))
+    appended one-record 130 (first-record .still-bytes) (accepted one-record 130 (ap (λ a. a .number) (first-record .accepted)))
     (replicate 26 0) refl refl
 
 both-records :
@@ -129,5 +129,5 @@ append-left = append-refused (fresh-book 111) 18 cable (not-none (ap (λ w. w .n
 read-left : Unread 28 (readOf small-book 130 1)
 read-left = read-refused small-book 130 1 (not-none (ap (λ f. f .number) (edges .index-at-count)))
 
-accept-left : Unaccepted 1 (acceptOf (set small-book 113 147) 130 1)
-accept-left = accept-refused (set small-book 113 147) 130 1 (not-none (ap (λ a. a .number) (edges .rating-changed 1)))
+accept-left : Unaccepted rbk1 (set small-book 113 147) 130 (acceptOf (set small-book 113 147) 130)
+accept-left = accept-refused (set small-book 113 147) 130 (not-none (ap (λ a. a .number) (edges .rating-changed)))

@@ -1,12 +1,12 @@
 -- docs/BOOK.md with every byte written out: its small book as start and append make it and as describe, read and accept find it, a trailer,
 -- a record, and each refusal 20 to 26 at its edge and just not given. So a definition that moves a byte or an edge is refused, even where
 -- writing and reading still undo each other. Assumes nothing.
-use mathlib.Core.Bool.{true, false, cond, _&&_}
+use mathlib.Core.Bool.{true, false}
 use mathlib.Core.List.{List, [], _∷_, _++_}
 use mathlib.Core.Path.{_≡_, refl, ap₂}
 use Prim.Native.Nat.{ℕ}
-use lib.Dec.{eqb}
 use lib.ListN.{drop, set, replicate}
+use Rattle.bools.specs.Earliest.{earliest}
 use Rattle.splice.specs.Splice.{splice}
 use Rattle.rating.specs.Rate.{rateOf}
 use Rattle.rating.specs.Laws.Answers.{cable}
@@ -15,12 +15,13 @@ use Rattle.book_laws.specs.Bytes.{numberBytes, numberAt, wordBytes, word
 use Rattle.book_laws.specs.Layout.{rbk1}
 use Rattle.book_laws.specs.Format.{fieldsOf, recordBytes, trailerBytes}
 use Rattle.book_laws.specs.Trailer.{undescribed, wrongTrailer, describeAt, describeIn, onBookIn}
-use Rattle.book_laws.specs.Record.{agrees, allAgree}
+use Rattle.book_laws.specs.Record.{agrees, allAgree, firstDisagreeing}
 use Rattle.book_laws.specs.Start.{Written, unwritten, startIn}
 use Rattle.book_laws.specs.Append.{appendAfter, appendIn}
 use Rattle.book_laws.specs.Read.{unread, readAfter, readIn}
 use Rattle.book_laws.specs.Accept.{Acceptance, unaccepted, acceptAfter, acceptIn}
 use Rattle.book_laws.specs.Book.{describe, startOf, appendOf, readOf, acceptOf}
+use Rattle.book_laws.specs.Laws.Judged.{as-rated, judged}
 
 -- The page's small book: the note 'OK' and the cable. From 106 on stands the answer, from 110 the rating, from 114 the trailer: the mark,
 -- from 118 the count, from 122 the distance, from 126 the record length.
@@ -54,7 +55,7 @@ pub record Literal : Type 0 where
   pub appended : appendOf (fresh-book 113) 18 cable ≡ record { number = 0; used = 130; bytes = small-book ++ (7 ∷ []) }
   pub described : describe small-book 130 ≡ record { number = 0; count = 1; first = 2 }
   pub reads : readOf small-book 130 0 ≡ record { number = 0; fields = cable ++ (0 ∷ 457106 ∷ []) }
-  pub accepts : (k : ℕ) → acceptOf small-book 130 k ≡ record { number = 0; count = 1; note = 2; named = 0 }
+  pub accepts : acceptOf small-book 130 ≡ record { number = 0; count = 1; note = 2; named = 0 }
   -- A trailer, and a record field by field.
   pub trailer : trailerBytes rbk1 2 ≡ 82 ∷ 66 ∷ 75 ∷ 49 ∷ 0 ∷ 0 ∷ 0 ∷ 2 ∷ 0 ∷ 0 ∷ 0 ∷ 224 ∷ 0 ∷ 0 ∷ 0 ∷ 112 ∷ []
   pub fields :
@@ -91,8 +92,8 @@ pub record Edges : Type 0 where
   pub no-note : describe (drop 2 small-book) 128 ≡ record { number = 0; count = 1; first = 0 }
   pub byte-missing : describe (drop 3 small-book) 127 ≡ record { number = 22; count = 0; first = 0 }
   -- 23: a rating or an answer changed by one.
-  pub rating-changed : (k : ℕ) → acceptOf (set small-book 113 147) 130 k ≡ record { number = 23; count = 0; note = 0; named = k }
-  pub answer-changed : (k : ℕ) → acceptOf (set small-book 109 1) 130 k ≡ record { number = 23; count = 0; note = 0; named = k }
+  pub rating-changed : acceptOf (set small-book 113 147) 130 ≡ record { number = 23; count = 0; note = 0; named = 1 }
+  pub answer-changed : acceptOf (set small-book 109 1) 130 ≡ record { number = 23; count = 0; note = 0; named = 1 }
   -- 24: one byte too short, and exactly enough.
   pub start-short : startOf (replicate 17 7) 2 ≡ record { number = 24; used = 0; bytes = replicate 17 7 }
   pub start-enough : startOf (79 ∷ 75 ∷ replicate 16 7) 2 ≡ record { number = 0; used = 18; bytes = fresh-book 0 }
@@ -115,7 +116,7 @@ pub record Edges : Type 0 where
       (x : List ℕ) → appendOf (set small-book 121 2) 130 x ≡ record { number = 22; used = 0; bytes = set small-book 121 2 }
   pub trailer-before-index : readOf (set small-book 121 2) 130 2 ≡ record { number = 22; fields = replicate 28 0 }
   pub trailer-before-record :
-      (k : ℕ) → acceptOf (set (set small-book 121 2) 113 147) 130 k ≡ record { number = 22; count = 0; note = 0; named = 0 }
+      acceptOf (set (set small-book 121 2) 113 147) 130 ≡ record { number = 22; count = 0; note = 0; named = 0 }
 
 -- `rateOf` is shut, so that the cable's answer n and its rating i come from its theorem.
 
@@ -126,27 +127,28 @@ recorded behind n i =
     record { number = 0; used = 130; bytes = splice (fresh-book behind) 2 bytes }
 
 -- what accept answers where the record has this number and this rating
-abbrev judged : (k number rating n i : ℕ) → Acceptance
-judged k number rating n i =
-    cond (eqb number n && eqb rating i) (record { number = 0; count = 1; note = 2; named = 0 }) (unaccepted 23 k)
+abbrev accepted-as : (number rating n i : ℕ) → Acceptance
+accepted-as number rating n i = judged 2 (as-rated number rating n i ∷ [])
 
 pub literal : Literal
 unfolding startIn appendIn appendAfter readIn readAfter acceptIn acceptAfter unwritten unread unaccepted onBookIn describeIn describeAt
-    undescribed wrongTrailer agrees allAgree fieldsOf recordBytes trailerBytes stands numberAt numberBytes wordsAt wordsBytes splice
+    undescribed wrongTrailer agrees allAgree firstDisagreeing earliest fieldsOf recordBytes trailerBytes stands numberAt numberBytes
+    wordsAt wordsBytes splice
 literal =
     record {
       started = refl;
       appended = ap₂ (recorded 113) (answer .0) (answer .1);
       described = refl;
       reads = refl;
-      accepts = λ k. ap₂ (judged k 0 457106) (answer .0) (answer .1);
+      accepts = ap₂ (accepted-as 0 457106) (answer .0) (answer .1);
       trailer = refl;
       fields = refl;
     }
 
 pub edges : Edges
 unfolding startIn appendIn appendAfter readIn readAfter acceptIn acceptAfter unwritten unread unaccepted onBookIn describeIn describeAt
-    undescribed wrongTrailer agrees allAgree fieldsOf recordBytes trailerBytes stands numberAt numberBytes wordsAt wordsBytes splice
+    undescribed wrongTrailer agrees allAgree firstDisagreeing earliest fieldsOf recordBytes trailerBytes stands numberAt numberBytes
+    wordsAt wordsBytes splice
 edges =
     record {
       length-over = refl;
@@ -166,8 +168,8 @@ edges =
       length-byte = refl;
       no-note = refl;
       byte-missing = refl;
-      rating-changed = λ k. ap₂ (judged k 0 457107) (answer .0) (answer .1);
-      answer-changed = λ k. ap₂ (judged k 1 457106) (answer .0) (answer .1);
+      rating-changed = ap₂ (accepted-as 0 457107) (answer .0) (answer .1);
+      answer-changed = ap₂ (accepted-as 1 457106) (answer .0) (answer .1);
       start-short = refl;
       start-enough = refl;
       append-short = λ x. refl;
@@ -178,5 +180,5 @@ edges =
       index-at-count = refl;
       trailer-before-space = λ x. refl;
       trailer-before-index = refl;
-      trailer-before-record = λ k. refl;
+      trailer-before-record = refl;
     }

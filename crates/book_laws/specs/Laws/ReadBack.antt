@@ -60,10 +60,9 @@ module _ {l : Layout} (lawful : Lawful l) (b : List ℕ) (note : ℕ) (xs : List
         allAgree-all l book note (length xs)
         (λ i h. fields-agree l book (placeFrom l note i) (getD xs i []) (case-at l xs i cases h .size) (record-stands i h))
 
-    built-accepted :
-        (k : ℕ) → acceptIn l book (usedFor l note (length xs)) k ≡ record { number = 0; count = length xs; note = note; named = 0 }
+    built-accepted : acceptIn l book (usedFor l note (length xs)) ≡ record { number = 0; count = length xs; note = note; named = 0 }
     unfolding acceptIn acceptAfter
-    built-accepted k =
+    built-accepted =
         onBook-on l book (usedFor l note (length xs)) _ _ (sym (built-described lawful b note xs cases fit)) refl
         ∙ simp built-agrees
 

@@ -13,8 +13,9 @@ use Rattle.book_laws.specs.Record.{allAgree}
 use Rattle.book_laws.specs.Start.{Written, unwritten, startIn}
 use Rattle.book_laws.specs.Append.{appendAfter, appendIn}
 use Rattle.book_laws.specs.Read.{Fields, unread, readAfter, readIn}
-use Rattle.book_laws.specs.Accept.{Acceptance, unaccepted, acceptAfter, acceptIn}
-use Rattle.book_laws.specs.Laws.Trailer.{either, onBook-each}
+use Rattle.book_laws.specs.Accept.{Acceptance, unaccepted, acceptAfter, acceptIn, DisagreesFirstIn}
+use Rattle.book_laws.specs.Laws.Trailer.{either, either-by, onBook-each}
+use Rattle.book_laws.specs.Laws.Disagreeing.{named-first}
 
 -- n is one of the numbers
 abbrev pub OneOf : List ℕ → ℕ → Type 0
@@ -32,12 +33,12 @@ pub record Unread (n : ℕ) (f : Fields) : Type 0 where
   pub number-is : OneOf (20 ∷ 21 ∷ 22 ∷ 26 ∷ []) (f .number)
   pub zeros : f .fields ≡ replicate n 0
 
--- of accept, where k is the record that 23 names
-pub record Unaccepted (k : ℕ) (a : Acceptance) : Type 0 where
+-- of accept: 23 names the first record that disagrees, the others name none
+pub record Unaccepted (l : Layout) (b : List ℕ) (used : ℕ) (a : Acceptance) : Type 0 where
   pub number-is : OneOf (20 ∷ 21 ∷ 22 ∷ 23 ∷ []) (a .number)
   pub no-count : a .count ≡ 0
   pub no-note : a .note ≡ 0
-  pub names : a .number ≡ 23 → a .named ≡ k
+  pub names : a .number ≡ 23 → DisagreesFirstIn l b used (a .named)
   pub names-none : (a .number ≡ 23 → ⊥) → a .named ≡ 0
 
 module _ (l : Layout) (b : List ℕ) where
@@ -72,11 +73,11 @@ module _ (l : Layout) (b : List ℕ) where
       (leaves 22 (inr (inr (inl refl))))
       (either P (leb (describeIn l b used .count) i) _ _ (leaves 26 (inr (inr (inr (inl refl))))) (λ given. absurd (given refl)))
 
-  pub acceptIn-refused : (used k : ℕ) → (acceptIn l b used k .number ≡ 0 → ⊥) → Unaccepted k (acceptIn l b used k)
+  pub acceptIn-refused : (used : ℕ) → (acceptIn l b used .number ≡ 0 → ⊥) → Unaccepted l b used (acceptIn l b used)
   unfolding acceptIn acceptAfter unaccepted
-  acceptIn-refused used k =
+  acceptIn-refused used =
       let d = describeIn l b used in
-      let P : Acceptance → Type 0 = λ a. (a .number ≡ 0 → ⊥) → Unaccepted k a in
+      let P : Acceptance → Type 0 = λ a. (a .number ≡ 0 → ⊥) → Unaccepted l b used a in
       let leaves : (n : ℕ) → OneOf (20 ∷ 21 ∷ 22 ∷ 23 ∷ []) n → (n ≡ 23 → ⊥) → P (unaccepted n 0) =
       λ n is not-23 given. record {
         number-is = is;
@@ -89,11 +90,12 @@ module _ (l : Layout) (b : List ℕ) where
       onBook-each P l b used _ _ (λ given. absurd (given refl)) (leaves 20 (inl refl) (λ e. omega arith))
       (leaves 21 (inr (inl refl)) (λ e. omega arith))
       (leaves 22 (inr (inr (inl refl))) (λ e. omega arith))
-      (either P (allAgree l b (d .first) (d .count)) _ _ (λ given. absurd (given refl))
-      (λ given. record {
+      (either-by P (allAgree l b (d .first) (d .count)) _ _
+      (λ all given. absurd (given refl))
+      (λ not-all given. record {
         number-is = inr (inr (inr (inl refl)));
         no-count = refl;
         no-note = refl;
-        names = λ is-23. refl;
+        names = λ is-23. named-first l b used not-all;
         names-none = λ other. absurd (other refl);
       }))

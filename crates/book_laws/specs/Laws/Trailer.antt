@@ -8,7 +8,7 @@ use native.Mathlib.Omega.{arith}
 use lib.Dec.{eqb, ltb, lit≤}
 use lib.ListN.{length}
 use borrow.Author.Tests.{ltb-false, eqb-true, eqb-false, not-false, eq-eqb, ne-eqb}
-use Rattle.bools.specs.Laws.Tests.{neither, passed}
+use Rattle.bools.specs.Laws.Tests.{neither, by-outcome, passed}
 use Rattle.book_laws.specs.Bytes.{stands}
 use Rattle.book_laws.specs.Layout.{Layout, recordLength, trailerLength}
 use Rattle.book_laws.specs.Format.{countAt, distanceAt, lengthAt}
@@ -74,10 +74,15 @@ described l b used e =
       size-is = fields .size-is;
     }
 
+-- what holds of each answer of a test, where it is chosen, holds of the one that is
+pub either-by :
+    {A : Type 0} (P : A → Type 0) (given : Bool) (refusal rest : A) → (given ≡ true → P refusal) → (given ≡ false → P rest) →
+    P (cond given refusal rest)
+either-by P given refusal rest = by-outcome (λ t. P (cond t refusal rest)) given
+
 -- what holds of both answers of a test holds of the one that is chosen
 pub either : {A : Type 0} (P : A → Type 0) (given : Bool) (refusal rest : A) → P refusal → P rest → P (cond given refusal rest)
-either P true refusal rest of-refusal of-rest = of-refusal
-either P false refusal rest of-refusal of-rest = of-rest
+either P given refusal rest of-refusal of-rest = either-by P given refusal rest (λ e. of-refusal) (λ e. of-rest)
 
 -- 20, 21 and 22 are the numbers that a trailer is refused by
 pub describe-number :

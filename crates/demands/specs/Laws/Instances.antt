@@ -20,11 +20,13 @@ use Rattle.book_laws.specs.Append.{appendAfter, appendIn}
 use Rattle.book_laws.specs.Accept.{Acceptance}
 use Rattle.book_laws.specs.Build.{allCases}
 use Rattle.book_laws.specs.Built.{builtIn}
-use Rattle.book_laws.specs.Book.{Accepted, Appended, startOf, appendOf, acceptOf, casesOf, build, Kept}
+use Rattle.book_laws.specs.Book.{Accepted, DisagreesFirst, Appended, startOf, appendOf, acceptOf, casesOf, build, Kept}
 use Rattle.book_laws.specs.Laws.Literal.{small-book, fresh-book, literal, edges}
+use Rattle.book_laws.specs.Laws.Named.{book, named}
 use Rattle.demands.specs.Demands.{demand-1, demand-2, demand-3}
 
--- Demand 1: a case that 7 refuses, and a buffer that is one byte too short for start and for append.
+-- Demand 1: a case that 7 refuses, a buffer that is one byte too short for start and for append, and a book whose last two records
+-- disagree.
 
 refused-case : (rateOf aluminium .rating ≡ 0) × (rateOf aluminium .sheet ≡ replicate 13 0)
 refused-case =
@@ -40,6 +42,11 @@ refused-append =
     demand-1 .refused-append (fresh-book 111) 18 cable
     (λ none. suc-ne-zero 23 (sym (ap (λ (w : Written). w .number) (edges .append-short cable)) ∙ none))
 
+last-two-disagree :
+    let b = book 457106 457105 457107 in
+    DisagreesFirst b 352 (acceptOf b 352 .named)
+last-two-disagree = demand-1 .first-named (book 457106 457105 457107) 352 (ap (λ (a : Acceptance). a .number) (named .last-two))
+
 -- Demand 2: the cable and the case of 26 zeros in a fresh book, the small book built again, and the cable appended to a book of no records.
 
 abbrev two-cases : List (List ℕ)
@@ -52,11 +59,11 @@ kept =
     demand-2 .kept (replicate 250 7) 2 two-cases refl (ap (λ (w : Written). w .number) fits)
 
 fine : Accepted small-book 130
-fine = demand-2 .accepted small-book 130 0 (ap (λ (a : Acceptance). a .number) (literal .accepts 0))
+fine = demand-2 .accepted small-book 130 (ap (λ (a : Acceptance). a .number) (literal .accepts))
 
-accepts : acceptOf small-book 130 7 ≡ record { number = 0; count = 1; note = 2; named = 0 }
+accepts : acceptOf small-book 130 ≡ record { number = 0; count = 1; note = 2; named = 0 }
 unfolding describeIn describeAt wrongTrailer stands numberAt
-accepts = demand-2 .accepts small-book 130 7 fine
+accepts = demand-2 .accepts small-book 130 fine
 
 rebuilt : build (79 ∷ 75 ∷ replicate 129 7) 2 (casesOf small-book 130) ≡ record { number = 0; used = 130; bytes = small-book ++ (7 ∷ []) }
 unfolding describeIn describeAt wrongTrailer stands numberAt below

@@ -2,13 +2,12 @@
 use mathlib.Core.List.{List, [], _∷_}
 use mathlib.Core.Path.{_≡_, sym}
 use Prim.Native.Nat.{ℕ}
-use native.Mathlib.Omega.{arith}
-use lib.ListN.{length, getD}
+use lib.ListN.{length}
 use denote.Ref.{now}
 use borrow.Author.Tests.{eq-eqb, ne-eqb}
-use Rattle.book_laws.specs.Book.{Differs}
+use Rattle.book_laws.specs.Book.{acceptOf}
 use Rattle.book.specs.declared.accept.Acceptance.{Acceptance}
-use Rattle.book.specs.Answers.{AcceptAnswers}
+use Rattle.book.specs.Answers.{acceptanceOf}
 use Rattle.sheafdawn.specs.Calls.{call, called, acceptCall}
 use Rattle.sheafdawn.proofs.Outs.{three-places}
 use borrow.Author.Needs.{needs}
@@ -17,15 +16,14 @@ use Rattle.sheafdawn.proofs.sheafdawn_accept.Tie as tie
 
 called-right :
     (b : List ℕ) (used : ℕ) (out : List ℕ) {r : Acceptance} {m : List ℕ} → length out ≡ 3 →
-    AcceptAnswers b used r → m ≡ r .count ∷ r .note ∷ r .named ∷ [] →
-    (call (r .number) m ≡ acceptCall b used (getD m 2 0) out) × (r .number ≡ 23 → Differs b used (getD m 2 0))
+    acceptanceOf r ≡ acceptOf b used → m ≡ r .count ∷ r .note ∷ r .named ∷ [] →
+    call (r .number) m ≡ acceptCall b used out
 unfolding acceptCall called
-called-right b used out is-3 answered wrote =
-    rw wrote (rw (← answered .answer-is) (sym (simp (eq-eqb _ _ is-3))), answered .differs)
+called-right b used out is-3 answered wrote = rw wrote (rw (← answered) (sym (simp (eq-eqb _ _ is-3))))
 
 returns : tie.Need-returns
 unfolding acceptCall called
-returns c = (simp (ne-eqb _ _ (c .if1 .taken)), λ is-23. absurd (omega arith))
+returns c = simp (ne-eqb _ _ (c .if1 .taken))
 
 returns-2 : tie.Need-returns-2
 returns-2 c =

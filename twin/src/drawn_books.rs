@@ -2,7 +2,9 @@
 // listing with the twin's. The kinds take turns, so that each appears whatever
 // the dice show.
 
-use crate::book::{append, put_word, start, word_at, INPUTS, MARK, RECORD_LENGTH, TRAILER_LENGTH};
+use crate::book::{
+    append, put_word, start, word_at, ANSWER, INPUTS, MARK, RATING, RECORD_LENGTH, TRAILER_LENGTH,
+};
 use crate::dice::Dice;
 use crate::drawn_cases::mixed_case;
 use crate::listing::LONGEST_BOOK;
@@ -12,7 +14,7 @@ use crate::rating::Words;
 /// made before, for kinds that go through a range one by one.
 type Kind = fn(&mut Dice, usize) -> Vec<u8>;
 
-pub const KINDS: [Kind; 20] = [
+pub const KINDS: [Kind; 21] = [
     sound,
     sound,
     empty,
@@ -26,6 +28,7 @@ pub const KINDS: [Kind; 20] = [
     cut_at_the_front,
     trailer_byte_changed,
     field_changed,
+    several_disagree,
     too_long,
     random,
     random_after_mark,
@@ -174,14 +177,41 @@ fn field_changed(dice: &mut Dice, turn: usize) -> Vec<u8> {
         0 => number_between(dice, 0, INPUTS - 1),
         other => INPUTS - 1 + other,
     };
-    let at = record + 4 * field;
+    change_word(dice, &mut book, record + 4 * field);
+    book
+}
+
+/// Makes a word another one.
+fn change_word(dice: &mut Dice, book: &mut [u8], at: usize) {
     let change = match dice.roll() % 4 {
         0 => 1,
         1 => u32::MAX,
         _ => dice.between(1, u32::MAX.into()) as u32,
     };
-    let changed = word_at(&book, at).wrapping_add(change);
-    put_word(&mut book, at, changed);
+    let changed = word_at(book, at).wrapping_add(change);
+    put_word(book, at, changed);
+}
+
+/// Two or more records with another answer or rating: the first and the last,
+/// the first two, the last two, two neighbours, two anywhere, and all, by turns.
+fn several_disagree(dice: &mut Dice, turn: usize) -> Vec<u8> {
+    let note = note(dice, 200);
+    let count = number_between(dice, 2, 40);
+    let mut book = book_after(&note, count, dice);
+    let neighbour = number_between(dice, 0, count - 2);
+    let anywhere = number_between(dice, 0, count - 1);
+    let indices = match turn % 6 {
+        0 => vec![0, count - 1],
+        1 => vec![0, 1],
+        2 => vec![count - 2, count - 1],
+        3 => vec![neighbour, neighbour + 1],
+        4 => vec![anywhere, (anywhere + number_between(dice, 1, count - 1)) % count],
+        _ => (0..count).collect(),
+    };
+    for index in indices {
+        let field = if dice.roll() % 2 == 0 { ANSWER } else { RATING };
+        change_word(dice, &mut book, note.len() + RECORD_LENGTH * index + 4 * field);
+    }
     book
 }
 

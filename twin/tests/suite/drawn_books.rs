@@ -1,9 +1,10 @@
 // The books of make-books: what each kind is made for, it must bring about.
 
-use twin::book::{accept, read, Refusal, ANSWER};
+use twin::book::{accept, case_of, read, Refusal, ANSWER, RATING};
 use twin::dice::Dice;
 use twin::drawn_books::{drawn_book, KINDS};
 use twin::listing::listing;
+use twin::rating::rate;
 
 /// The first kinds are sound books.
 const SOUND_KINDS: usize = 9;
@@ -67,4 +68,24 @@ fn every_record_of_a_book_can_be_the_one_that_disagrees() {
     records.sort_unstable();
     records.dedup();
     assert!(records.len() > 5 && records[0] == 1, "{records:?}");
+}
+
+/// Of the books in which several records disagree, as the rater says of each
+/// record by itself, every one is refused at the first of these.
+#[test]
+fn the_first_of_several_is_named() {
+    let mut several = 0;
+    for book in drawn_books(6) {
+        let Err(Refusal::Disagrees(named)) = accept(&book, book.len()) else { continue };
+        let disagrees = |index: &usize| {
+            let record = read(&book, book.len(), *index).expect("below the count");
+            let rated = rate(&case_of(&record));
+            (record[ANSWER], record[RATING]) != (rated.answer, rated.rating)
+        };
+        let count = (0..).take_while(|&index| read(&book, book.len(), index).is_ok()).count();
+        let indices: Vec<usize> = (0..count).filter(disagrees).collect();
+        assert_eq!(named, indices[0] + 1);
+        several += usize::from(indices.len() > 1);
+    }
+    assert!(several >= TURNS, "{several}");
 }

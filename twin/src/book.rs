@@ -150,7 +150,8 @@ pub fn read(buffer: &[u8], used: usize, index: usize) -> Result<Record, Refusal>
     Ok(record_at(buffer, parts, index))
 }
 
-/// Rates every record's case again and answers the parts when all agree.
+/// Rates every record's case again and answers the parts when all agree, or else
+/// the first record that does not.
 pub fn accept(buffer: &[u8], used: usize) -> Result<Parts, Refusal> {
     let parts = parts(buffer, used)?;
     for index in 0..parts.count {

@@ -10,7 +10,7 @@ use Rattle.book_laws.specs.Layout.{rbk1, record_length, trailer_length}
 use Rattle.book_laws.specs.Trailer.{Description}
 use Rattle.book_laws.specs.Record.{place_from}
 use Rattle.book_laws.specs.Book.{describe}
-use Rattle.book_laws.specs.Laws.Trailer.{Described, described}
+use Rattle.book_laws.proofs.Laws.Trailer.{Described, described}
 
 pub of_book :
     (b : List ℕ) (used : ℕ) {d : Code.Description} → description_of d ≡ describe b used → d.number ≡ 0 →

@@ -13,4 +13,3 @@ pub mod Build
 pub mod Built
 pub mod Appended
 pub mod Book
-pub mod Laws

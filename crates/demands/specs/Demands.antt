@@ -14,10 +14,7 @@ use Rattle.rating.specs.Allowed.{Allowed}
 use Rattle.rating.specs.Refusals.{refusals_of}
 use Rattle.rating.specs.Rate.{refused, rated, rate_of}
 use Rattle.rating.specs.Exact.{exact_rise, permitted_of}
-use Rattle.rating.specs.Laws.First.{by_refusals}
-use Rattle.rating.specs.Laws.Refused.{refused_zeros}
-use Rattle.rating.specs.Laws.Passed.{rated_stages}
-use Rattle.rating.specs.Laws.Logarithms.{lowest, lowest_allowed}
+use Rattle.rating.specs.Laws.Logarithms.{lowest}
 use Rattle.book_laws.specs.Bytes.{below, words_at}
 use Rattle.book_laws.specs.Layout.{record_fields, record_length, trailer_length}
 use Rattle.book_laws.specs.Format.{record_bytes, trailer_bytes}
@@ -44,9 +41,6 @@ use Rattle.book_laws.specs.Book.{
   Fits,
   Kept,
 }
-use Rattle.book_laws.specs.Laws.First.{start_by_refusals, append_by_refusals, read_by_refusals, accept_by_refusals}
-use Rattle.book_laws.specs.Laws.Demands as Law
-use Rattle.book_laws.specs.Laws.Margin as Margin
 
 -- Every case and every book of any bytes gets its answer or the first refusal that applies. A refused case rates 0; a refused operation
 -- changes no byte. The list of refusals is in the order in which they are tried; where none is given, the last line is the answer.
@@ -94,21 +88,6 @@ pub record Demand1 : Type 0 where
   -- every record before the one that 23 names agrees, and it does not
   pub first_named : (b : List ℕ) (used : ℕ) → (accept_of b used).number ≡ 23 → DisagreesFirst b used (accept_of b used).named
 
-pub demand_1 : Demand1
-unfolding refused unwritten unread unaccepted
-demand_1 =
-    record {
-      case = by_refusals;
-      start = start_by_refusals new_layout;
-      append = append_by_refusals new_layout;
-      read = λ b used. read_by_refusals (layout_of b used) b used;
-      accept = λ b used. accept_by_refusals (layout_of b used) b used;
-      refused_case = λ x given. let zeros = refused_zeros x given in (zeros.rating, zeros.sheet);
-      refused_start = λ b note given. ap (λ (w : Written). w.bytes) (Law.start_refused b note given);
-      refused_append = λ b used x given. (Law.append_refused b used x given).bytes_stay;
-      first_named = Law.first_named;
-    }
-
 -- Each rating and sheet number is that of the stages. Cases appended to a fresh book read back as they were. An accepted book built again
 -- from its note and its cases has the same bytes.
 pub record Demand2 : Type 0 where
@@ -136,18 +115,6 @@ pub record Demand2 : Type 0 where
       (b : List ℕ) (used : ℕ) (x : List ℕ) → below 256 b ≡ true → Accepted b used → all_cases new_layout (x ∷ []) ≡ true →
       (append_of b used x).number ≡ 0 → Appended b used x (append_of b used x)
 
-pub demand_2 : Demand2
-demand_2 =
-    record {
-      stages = rated_stages;
-      kept = Law.kept;
-      fits = Law.build_fits;
-      accepted = Law.accepted;
-      accepts = Law.accepts;
-      rebuilt = Law.rebuilt;
-      appended = λ b used x bytes fine is_a_case. Law.appended b used bytes fine x is_a_case;
-    }
-
 -- For each rated record of an accepted book, its case x and its rating i as `read` answers them, and whichever fractions between the stated
 -- ends stand for pi, ln 2 and each logarithm that the arrangement has: at i mA the exact rise is at most the permitted rise, at i + 2 it is
 -- above.
@@ -162,6 +129,3 @@ pub record Demand3 : Type 0 where
       whole (permitted_of x) <F exact_rise x c (whole (i + 2))
   -- there are such fractions for every case: the lower ends
   pub some : (x : List ℕ) → Allowed (own x) x (lowest x)
-
-pub demand_3 : Demand3
-demand_3 = record { under = Margin.safe; over = Margin.close; some = lowest_allowed }

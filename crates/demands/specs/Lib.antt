@@ -1,3 +1,2 @@
 -- The three demands, and instances of them. Assumes nothing.
 pub mod Demands
-pub mod Laws

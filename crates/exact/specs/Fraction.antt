@@ -18,8 +18,8 @@ infixl 65 ◌+F◌
 unfoldable pub ◌+F◌ : Fraction → Fraction → Fraction
 x +F y = x.num * y.den + y.num * x.den over x.den * y.den
 
-infixl 70 ◌*_f◌
-unfoldable pub ◌*_f◌ : Fraction → Fraction → Fraction
+infixl 70 ◌*F◌
+unfoldable pub ◌*F◌ : Fraction → Fraction → Fraction
 x *F y = x.num * y.num over x.den * y.den
 
 -- 1/x. Its denominator is 0 where x is 0: no order holds of it then

@@ -5,4 +5,3 @@ pub mod Fraction
 pub mod Trillion
 pub mod Error
 pub mod Root
-pub mod Laws

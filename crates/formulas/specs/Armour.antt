@@ -1,7 +1,7 @@
 -- docs/RATING.md, stage 8: the loss in steel wire armour as a resistance, the paper's W, in arrangement 5 only. Assumes nothing.
 use Rattle.std.specs.Prelude.{ℕ, ◌+◌, ◌*◌, ◌^◌}
 use Rattle.exact.specs.Rounding.{up, down}
-use Rattle.exact.specs.Fraction.{Fraction, ◌over◌, whole, ◌+F◌, ◌*_f◌, ◌/F◌, square}
+use Rattle.exact.specs.Fraction.{Fraction, ◌over◌, whole, ◌+F◌, ◌*F◌, ◌/F◌, square}
 use Rattle.formulas.specs.Constants.{tera}
 
 -- the paper's y, from RA and B

@@ -2,7 +2,7 @@
 -- It has two formulas: one up to a sheath resistance of 100 µΩ/m and one above. Assumes nothing.
 use Rattle.std.specs.Prelude.{Bool, cond, ℕ, ◌+◌, ◌*◌, ◌^◌, leb}
 use Rattle.exact.specs.Rounding.{up, down}
-use Rattle.exact.specs.Fraction.{Fraction, ◌over◌, whole, ◌+F◌, ◌*_f◌, ◌/F◌, square}
+use Rattle.exact.specs.Fraction.{Fraction, ◌over◌, whole, ◌+F◌, ◌*F◌, ◌/F◌, square}
 use Rattle.formulas.specs.Constants.{tera}
 
 -- the largest Rs that the first formula is for, 100 µΩ/m, and whether it is for this one. Rs is not rounded, so S and its exact value take

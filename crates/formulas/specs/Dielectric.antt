@@ -1,7 +1,7 @@
 -- docs/RATING.md, stage 9: the dielectric loss, the rise that it causes, and what it leaves of the permitted rise. Assumes nothing.
 use Rattle.std.specs.Prelude.{ℕ, ◌+◌, ◌-◌, ◌*◌, ◌^◌}
 use Rattle.exact.specs.Rounding.{up}
-use Rattle.exact.specs.Fraction.{Fraction, whole, ◌*_f◌, ◌/F◌}
+use Rattle.exact.specs.Fraction.{Fraction, whole, ◌*F◌, ◌/F◌}
 
 -- the paper's Wd in 10^-12 W/m, from e, U0, t, B and l, the lower end of the logarithm of Di/ds
 unfoldable pub dielectric_loss : ℕ → ℕ → ℕ → ℕ → ℕ → ℕ

@@ -1,34 +1,5 @@
 -- What follows from the definitions: closed values, ranges, what docs/RATING.md says of the logarithm and of the rating, and how
 -- close each rounded stage lies to its exact one. Assumes nothing.
 pub mod Bounds
-pub mod Edges
-pub mod Values
-pub mod Temperature
-pub mod Octaves
-pub mod Current
 pub mod Ranges
-pub mod Between
-pub mod LogEndsOrder
-pub mod LogRange
 pub mod TableRule
-pub mod TableRange
-pub mod LogEndsGap
-pub mod LogEndsSum
-pub mod LogEndsHold
-pub mod LogPromised
-pub mod OverT
-pub mod CloseReactance
-pub mod CloseRise
-pub mod CloseUnitRise
-pub mod CloseSkin
-pub mod CloseProximity
-pub mod CloseDielectric
-pub mod CloseInverse
-pub mod CloseArmour
-pub mod CloseSpacing
-pub mod CloseSpacingLow
-pub mod CloseSheath
-pub mod CloseEddy
-pub mod CloseCommonSheath
-pub mod CloseScreening
-pub mod CloseInstances

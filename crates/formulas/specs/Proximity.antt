@@ -1,7 +1,7 @@
 -- docs/RATING.md, stage 4: the proximity effect and the a.c. resistance. Assumes nothing.
 use Rattle.std.specs.Prelude.{ℕ, ◌+◌, ◌*◌, ◌^◌}
 use Rattle.exact.specs.Rounding.{up}
-use Rattle.exact.specs.Fraction.{Fraction, ◌over◌, whole, ◌+F◌, ◌*_f◌, ◌/F◌}
+use Rattle.exact.specs.Fraction.{Fraction, ◌over◌, whole, ◌+F◌, ◌*F◌, ◌/F◌}
 use Rattle.formulas.specs.Constants.{tera}
 
 -- the paper's u: (dc/s)²

@@ -3,7 +3,7 @@
 use Rattle.std.specs.Prelude.{ℕ, ◌+◌, ◌*◌, ◌^◌}
 use Rattle.exact.specs.Rounding.{up, down}
 use Rattle.exact.specs.Root.{root}
-use Rattle.exact.specs.Fraction.{Fraction, whole, ◌+F◌, ◌*_f◌, ◌/F◌, square}
+use Rattle.exact.specs.Fraction.{Fraction, whole, ◌+F◌, ◌*F◌, ◌/F◌, square}
 
 -- the paper's E, in 10^-16 K/A²
 unfoldable pub unit_rise : ℕ → ℕ → ℕ → ℕ → ℕ → ℕ → ℕ → ℕ → ℕ

@@ -1,7 +1,7 @@
 -- docs/RATING.md, stage 2: 4πf × 10^-7 Ω/m, in 10^-16 Ω/m, from the frequency f in hundredths of Hz. Assumes nothing.
 use Rattle.std.specs.Prelude.{ℕ, ◌*◌, ◌^◌}
 use Rattle.exact.specs.Rounding.{up, down}
-use Rattle.exact.specs.Fraction.{Fraction, whole, ◌*_f◌}
+use Rattle.exact.specs.Fraction.{Fraction, whole, ◌*F◌}
 use Rattle.formulas.specs.Constants.{pi_low, pi_high}
 
 -- the paper's B

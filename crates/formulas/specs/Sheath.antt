@@ -2,7 +2,7 @@
 -- that circulates through the bonds, in 3 and 4 from eddies; CommonSheath has arrangement 6. Assumes nothing.
 use Rattle.std.specs.Prelude.{ℕ, ◌+◌, ◌*◌}
 use Rattle.exact.specs.Rounding.{up}
-use Rattle.exact.specs.Fraction.{Fraction, ◌over◌, whole, ◌+F◌, ◌*_f◌, ◌/F◌, square}
+use Rattle.exact.specs.Fraction.{Fraction, ◌over◌, whole, ◌+F◌, ◌*F◌, ◌/F◌, square}
 use Rattle.formulas.specs.Constants.{tera}
 
 -- Arrangements 1, 2 and 5.

@@ -1,7 +1,7 @@
 -- docs/RATING.md, stage 3: the skin effect, from the frequency f, ks (or kp) in thousandths and R'. Assumes nothing.
 use Rattle.std.specs.Prelude.{ℕ, ◌+◌, ◌*◌, ◌^◌}
 use Rattle.exact.specs.Rounding.{up}
-use Rattle.exact.specs.Fraction.{Fraction, whole, ◌+F◌, ◌*_f◌, ◌/F◌, square}
+use Rattle.exact.specs.Fraction.{Fraction, whole, ◌+F◌, ◌*F◌, ◌/F◌, square}
 use Rattle.formulas.specs.Constants.{tera, pi_high}
 
 -- the paper's A: 8πf × 10^-7 k Ω/m, in 10^-16 Ω/m

@@ -1,7 +1,7 @@
 -- docs/RATING.md, stage 6: the logarithm of the spacing, and the sheath's reactance. Assumes nothing.
 use Rattle.std.specs.Prelude.{cond, ℕ, ◌+◌, ◌*◌, eqb}
 use Rattle.exact.specs.Rounding.{up, down}
-use Rattle.exact.specs.Fraction.{Fraction, whole, ◌+F◌, ◌*_f◌, ◌/F◌}
+use Rattle.exact.specs.Fraction.{Fraction, whole, ◌+F◌, ◌*F◌, ◌/F◌}
 use Rattle.formulas.specs.Constants.{tera, ln2_third_low, ln2_third_high}
 use Rattle.formulas.specs.Logarithm.{log_low, log_high}
 

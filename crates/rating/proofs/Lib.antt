@@ -1,3 +1,4 @@
 pub mod Own
 pub mod Temperatures
 pub mod Tests
+pub mod Laws

@@ -8,11 +8,11 @@ use native.Mathlib.Omega.{arith}
 use lib.Dec.{lit<}
 use lib.ListN.{length, length-append}
 use Rattle.decimals.specs.Decimal.{decimal, padded}
-use Rattle.decimals.specs.Laws.Decimal.{decimal_small, decimal_large}
+use Rattle.decimals.proofs.Laws.Decimal.{decimal_small, decimal_large}
 use Rattle.splice.specs.Put.{Put}
 use Rattle.splice.specs.Splice.{splice}
 use Rattle.sheet_text.specs.Fixed.{fixed}
-use Rattle.splice.specs.Laws.Splice.{splice_after, splice_again}
+use Rattle.splice.proofs.Laws.Splice.{splice_after, splice_again}
 
 -- a one in front keeps the zeros after it
 pub one_ahead : (d r : ℕ) → r < 10 ^ d → decimal (10 ^ d + r) ≡ 49 ∷ padded d r

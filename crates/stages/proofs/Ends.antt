@@ -7,7 +7,7 @@ use native.Mathlib.Omega.{arith}
 use Rattle.exact.specs.Trillion.{trillion}
 use Rattle.formulas.specs.Constants.{tera}
 use Rattle.formulas.specs.Logarithm.{octaves, first_power, thirteen_terms}
-use Rattle.formulas.specs.Laws.LogRange.{Bounded, first_power_most, thirteen_terms_most, octaves_most}
+use Rattle.formulas.proofs.Laws.LogRange.{Bounded, first_power_most, thirteen_terms_most, octaves_most}
 use Rattle.formulas.specs.Laws.Bounds.{most_power, most_terms}
 use Rattle.wide.specs.Laws.Ranges.{QuotientFits}
 use Rattle.stages.specs.Reduced.{IsReduced}

@@ -8,7 +8,7 @@ use lib.Dec.{T, leb, ltb, lit<, lit≤}
 use Rattle.exact.specs.Rounding.{up, down}
 use Rattle.exact.specs.Trillion.{trillion}
 use Rattle.wide.specs.Laws.Ranges.{QuotientFits}
-use Rattle.formulas.specs.Laws.LogRange.{Bounded, up_bounded, down_bounded}
+use Rattle.formulas.proofs.Laws.LogRange.{Bounded, up_bounded, down_bounded}
 
 module _ {round : ℕ → ℕ → ℕ} (bounded : Bounded round) where
   fits : {a b : ℕ} (k : ℕ) → 0 < b → a ≤ k * b → T (ltb k (2 ^ 64)) → round a b < 2 ^ 64

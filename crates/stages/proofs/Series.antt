@@ -6,11 +6,11 @@ use native.Mathlib.Nat.{zero-add, le_trans, lt_of_le_of_lt, div-mul-le_self, lt-
 use native.Mathlib.Omega.{arith}
 use lib.Dec.{lit<, lit≤}
 use Rattle.exact.specs.Rounding.{up, down}
-use Rattle.exact.specs.Laws.Rounding.{up_only, down_only}
+use Rattle.exact.proofs.Laws.Rounding.{up_only, down_only}
 use Rattle.exact.specs.Trillion.{trillion}
 use Rattle.formulas.specs.Constants.{tera}
 use Rattle.formulas.specs.Logarithm.{series, thirteen_terms}
-use Rattle.formulas.specs.Laws.LogRange.{Bounded, power_most, term_most}
+use Rattle.formulas.proofs.Laws.LogRange.{Bounded, power_most, term_most}
 use Rattle.formulas.specs.Laws.Bounds.{most_power}
 
 -- before term j the sum and the terms that are left make the whole, and every number is small

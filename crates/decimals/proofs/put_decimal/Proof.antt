@@ -8,10 +8,10 @@ use native.Mathlib.Omega.{arith}
 use borrow.Author.Rules.{rules}
 use lib.ListN.{length}
 use Rattle.splice.specs.Put.{Put}
-use Rattle.splice.specs.Laws.Put.{put_as}
+use Rattle.splice.proofs.Laws.Put.{put_as}
 use Rattle.decimals.specs.Decimal.{decimal, PutPadded}
-use Rattle.decimals.specs.Laws.Decimal.{count_below}
-use Rattle.decimals.specs.Laws.Parts.{decimal_then}
+use Rattle.decimals.proofs.Laws.Decimal.{count_below}
+use Rattle.decimals.proofs.Laws.Parts.{decimal_then}
 use Rattle.decimals.proofs.put_decimal.Statement.{statement}
 use Rattle.decimals.proofs.put_decimal.Tie as tie
 

@@ -2,7 +2,7 @@
 -- Assumes nothing.
 use native.Mathlib.Omega.{arith}
 use borrow.Author.Rules.{rules}
-use Rattle.decimals.specs.Laws.Parts.{padded_then}
+use Rattle.decimals.proofs.Laws.Parts.{padded_then}
 use Rattle.decimals.proofs.put_four.Statement.{statement}
 use Rattle.decimals.proofs.put_four.Tie as tie
 

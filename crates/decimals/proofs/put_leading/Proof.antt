@@ -7,7 +7,7 @@ use native.Mathlib.Omega.{arith}
 use borrow.Author.Rules.{rules}
 use lib.ListN.{length, set}
 use Rattle.splice.specs.Splice.{splice}
-use Rattle.splice.specs.Laws.Splice.{splice_one}
+use Rattle.splice.proofs.Laws.Splice.{splice_one}
 use Rattle.decimals.proofs.put_leading.Statement.{statement}
 use Rattle.decimals.proofs.put_leading.Tie as tie
 

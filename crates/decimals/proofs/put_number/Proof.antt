@@ -5,9 +5,9 @@ use mathlib.Core.Path.{◌≡◌, sym, ap}
 use Prim.Native.Nat.{ℕ}
 use native.Mathlib.Omega.{arith}
 use borrow.Author.Rules.{rules}
-use Rattle.splice.specs.Laws.Put.{put_as, put_then}
+use Rattle.splice.proofs.Laws.Put.{put_as, put_then}
 use Rattle.decimals.specs.Decimal.{decimal, spaced}
-use Rattle.decimals.specs.Laws.Decimal.{count_64}
+use Rattle.decimals.proofs.Laws.Decimal.{count_64}
 use Rattle.decimals.proofs.put_number.Statement.{statement}
 use Rattle.decimals.proofs.put_number.Tie as tie
 

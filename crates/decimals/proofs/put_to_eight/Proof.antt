@@ -3,8 +3,8 @@
 use Prim.Native.Nat.{◌/◌}
 use native.Mathlib.Omega.{arith}
 use borrow.Author.Rules.{rules}
-use Rattle.decimals.specs.Laws.Decimal.{count_below}
-use Rattle.decimals.specs.Laws.Parts.{decimal_then}
+use Rattle.decimals.proofs.Laws.Decimal.{count_below}
+use Rattle.decimals.proofs.Laws.Parts.{decimal_then}
 use Rattle.decimals.proofs.put_to_eight.Statement.{statement}
 use Rattle.decimals.proofs.put_to_eight.Tie as tie
 

@@ -6,8 +6,8 @@ use mathlib.Core.Path.{refl, ap}
 use Prim.Native.Nat.{ℕ, ◌/◌}
 use native.Mathlib.Omega.{arith}
 use borrow.Author.Rules.{rules}
-use Rattle.splice.specs.Laws.Put.{put_as}
-use Rattle.decimals.specs.Laws.Leading.{ready_first, ready_next, ready_last}
+use Rattle.splice.proofs.Laws.Put.{put_as}
+use Rattle.decimals.proofs.Laws.Leading.{ready_first, ready_next, ready_last}
 use Rattle.decimals.proofs.put_to_four.Statement.{statement}
 use Rattle.decimals.proofs.put_to_four.Tie as tie
 

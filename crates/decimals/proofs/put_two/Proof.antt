@@ -5,7 +5,7 @@ use mathlib.Core.Path.{◌≡◌, ap₂}
 use Prim.Native.Nat.{ℕ, ◌+◌, ◌/◌, ◌%◌, ◌<◌}
 use native.Mathlib.Omega.{arith}
 use borrow.Author.Rules.{rules}
-use Rattle.splice.specs.Laws.Put.{put_as, put_then}
+use Rattle.splice.proofs.Laws.Put.{put_as, put_then}
 use Rattle.decimals.specs.Decimal.{padded}
 use Rattle.decimals.proofs.put_two.Statement.{statement}
 use Rattle.decimals.proofs.put_two.Tie as tie

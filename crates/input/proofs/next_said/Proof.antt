@@ -7,7 +7,7 @@ use native.Mathlib.Omega.{arith}
 use borrow.Author.Rules.{rules}
 use lib.ListN.{length, take}
 use lib.Seq.{length-take-le}
-use Rattle.bools.specs.Laws.Tests.{other_outcome}
+use Rattle.bools.proofs.Laws.Tests.{other_outcome}
 use Rattle.input.specs.State.{said_here}
 use Rattle.line_in_place.specs.declared.Line.{Line}
 use Rattle.line_in_place.specs.Standing.{standing}

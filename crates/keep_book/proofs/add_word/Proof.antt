@@ -8,9 +8,9 @@ use native.Mathlib.Omega.{arith}
 use borrow.Author.Rules.{rules}
 use lib.ListN.{length, take}
 use lib.Seq.{take_all, take-length}
-use Rattle.splice.specs.Laws.Splice.{splice_length, splice_nothing}
+use Rattle.splice.proofs.Laws.Splice.{splice_length, splice_nothing}
 use Rattle.splice.specs.Put.{Put}
-use Rattle.splice.specs.Laws.Put.{put_as, put_then}
+use Rattle.splice.proofs.Laws.Put.{put_as, put_then}
 use Rattle.text.specs.Gather.{piece, kept}
 use Rattle.keep_book.specs.Keeping.{next_word}
 use Rattle.keep_book.proofs.add_word.Statement.{statement}

@@ -4,7 +4,7 @@ use Rattle.std.proofs.Math.Bool.{true, false}
 use Rattle.std.proofs.Math.Path.{sym, ap}
 use Rattle.std.proofs.Common.{subst, ◌∙◌, arith, lt-ltb, le-ltb, ltb-true}
 use Rattle.std.proofs.Math.ListN.{length}
-use Rattle.bools.specs.Laws.Tests.{other_outcome}
+use Rattle.bools.proofs.Laws.Tests.{other_outcome}
 use Rattle.line_in_place.specs.declared.Line.{Line}
 use Rattle.line_in_place.specs.Standing.{line_end, line_of, standing}
 use Rattle.text.specs.Answer.{answer, no_case}

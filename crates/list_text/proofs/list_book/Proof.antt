@@ -8,12 +8,12 @@ use lib.ListN.{length}
 use Rattle.book.specs.declared.accept.Acceptance.{Acceptance}
 use Rattle.book.specs.Answers.{acceptance_of}
 use Rattle.book_laws.specs.Book.{accept_of}
-use Rattle.book_laws.specs.Laws.Accept.{Counted, count_within}
+use Rattle.book_laws.proofs.Laws.Accept.{Counted, count_within}
 use Rattle.book_laws.specs.Layout.{rbk1}
 use Rattle.splice.specs.Splice.{splice}
 use Rattle.splice.specs.Put.{Put}
-use Rattle.splice.specs.Laws.Put.{put_as}
-use Rattle.splice.specs.Laws.Splice.{splice_length}
+use Rattle.splice.proofs.Laws.Put.{put_as}
+use Rattle.splice.proofs.Laws.Splice.{splice_length}
 use Rattle.list_text.specs.Listing.{listing_for, listing_of}
 use borrow.Author.Rules.{rules}
 use Rattle.list_text.proofs.list_book.Statement.{statement}

@@ -1,9 +1,9 @@
 -- `list_text::put_line` meets its contract: the words, the digits, at most 20, and the line feed are joined. Assumes nothing.
 use mathlib.Core.List.{[], ◌∷◌}
 use native.Mathlib.Omega.{arith}
-use Rattle.splice.specs.Laws.Put.{put_then}
+use Rattle.splice.proofs.Laws.Put.{put_then}
 use Rattle.decimals.specs.Decimal.{decimal}
-use Rattle.decimals.specs.Laws.Decimal.{count_64}
+use Rattle.decimals.proofs.Laws.Decimal.{count_64}
 use borrow.Author.Rules.{rules}
 use Rattle.list_text.proofs.put_line.Statement.{statement}
 use Rattle.list_text.proofs.put_line.Tie as tie

@@ -7,7 +7,7 @@ use borrow.Author.Tests.{eq-eqb, ne_eqb}
 use Rattle.book.specs.declared.accept.Acceptance.{Acceptance}
 use Rattle.book.specs.Answers.{acceptance_of}
 use Rattle.book_laws.specs.Layout.{rbk1}
-use Rattle.splice.specs.Laws.Put.{put_as, put_then}
+use Rattle.splice.proofs.Laws.Put.{put_as, put_then}
 use Rattle.list_text.specs.Listing.{record_lines, book_line, refused_line, disagrees_line, listing_for}
 use borrow.Author.Rules.{rules}
 use Rattle.list_text.proofs.put_listing.Statement.{statement}

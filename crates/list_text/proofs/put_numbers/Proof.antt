@@ -3,9 +3,9 @@ use mathlib.Core.List.{List, [], ◌∷◌, ◌++◌, append_assoc}
 use mathlib.Core.Path.{◌≡◌, sym, ap, ◌∙◌}
 use Prim.Native.Nat.{ℕ, ◌+◌, ◌≤◌}
 use native.Mathlib.Omega.{arith}
-use Rattle.splice.specs.Laws.Put.{put_as, put_then}
+use Rattle.splice.proofs.Laws.Put.{put_as, put_then}
 use Rattle.decimals.specs.Decimal.{decimal, spaced, written}
-use Rattle.decimals.specs.Laws.Decimal.{count_64, spaced_append}
+use Rattle.decimals.proofs.Laws.Decimal.{count_64, spaced_append}
 use borrow.Author.Rules.{rules}
 use Rattle.list_text.proofs.put_numbers.Statement.{statement}
 use Rattle.list_text.proofs.put_numbers.Tie as tie

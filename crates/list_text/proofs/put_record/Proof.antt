@@ -4,7 +4,7 @@ use mathlib.Core.Path.{◌≡◌, ap₂}
 use Prim.Native.Nat.{ℕ, ◌+◌}
 use Rattle.book_laws.specs.Layout.{rbk1}
 use Rattle.book_laws.specs.Record.{place_from, answer_at, rating_at}
-use Rattle.splice.specs.Laws.Put.{put_within_as}
+use Rattle.splice.proofs.Laws.Put.{put_within_as}
 use Rattle.decimals.specs.Decimal.{written}
 use Rattle.list_text.specs.Listing.{record_line}
 use borrow.Author.Rules.{rules}

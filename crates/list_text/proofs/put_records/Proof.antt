@@ -8,7 +8,7 @@ use native.Mathlib.Omega.{arith}
 use lib.ListN.{length}
 use Rattle.book_laws.specs.Layout.{rbk1}
 use Rattle.splice.specs.Put.{PutWithin}
-use Rattle.splice.specs.Laws.Put.{put_as, put_nothing, put_then}
+use Rattle.splice.proofs.Laws.Put.{put_as, put_nothing, put_then}
 use Rattle.list_text.specs.Listing.{record_line, record_lines}
 use Rattle.list_text.proofs.put_records.Statement.{statement}
 use Rattle.list_text.proofs.put_records.Tie as tie

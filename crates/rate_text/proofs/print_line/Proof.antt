@@ -4,7 +4,7 @@ use mathlib.Core.List.{List}
 use mathlib.Core.Path.{◌≡◌, ap, ◌∙◌}
 use Prim.Native.Nat.{ℕ}
 use borrow.Author.Rules.{rules}
-use Rattle.splice.specs.Laws.Put.{put_within_as}
+use Rattle.splice.proofs.Laws.Put.{put_within_as}
 use Rattle.rate_text.specs.Answers.{printed_for, printed}
 use Rattle.text.specs.declared.line.Read.{Read}
 use Rattle.text.specs.Answer.{answer, said_of}

@@ -6,7 +6,7 @@ use Prim.Native.Nat.{ℕ}
 use native.Mathlib.Omega.{arith}
 use borrow.Author.Rules.{rules}
 use borrow.Author.Tests.{eq-eqb, ne_eqb}
-use Rattle.splice.specs.Laws.Put.{put_as, put_within_as, put_nothing}
+use Rattle.splice.proofs.Laws.Put.{put_as, put_within_as, put_nothing}
 use Rattle.rate_text.specs.Answers.{text_of, unreadable_text, printed_for}
 use Rattle.rating.specs.Rate.{Answer, rate_of}
 use Rattle.text.specs.declared.line.Read.{Read}

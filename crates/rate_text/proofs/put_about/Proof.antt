@@ -2,10 +2,10 @@
 -- Assumes nothing.
 use native.Mathlib.Omega.{arith}
 use borrow.Author.Rules.{rules}
-use Rattle.splice.specs.Laws.Put.{put_then}
+use Rattle.splice.proofs.Laws.Put.{put_then}
 use Rattle.rate_text.specs.Answers.{about_line}
 use Rattle.decimals.specs.Decimal.{decimal}
-use Rattle.decimals.specs.Laws.Decimal.{count_64}
+use Rattle.decimals.proofs.Laws.Decimal.{count_64}
 use Rattle.rate_text.proofs.put_about.Statement.{statement}
 use Rattle.rate_text.proofs.put_about.Tie as tie
 

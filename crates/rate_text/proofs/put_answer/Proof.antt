@@ -5,10 +5,10 @@ use mathlib.Core.Path.{◌≡◌, sym, ap, ◌∙◌}
 use Prim.Native.Nat.{ℕ, ◌+◌, ◌^◌, ◌≤◌, ◌<◌}
 use native.Mathlib.Omega.{arith}
 use borrow.Author.Rules.{rules}
-use Rattle.splice.specs.Laws.Put.{put_as, put_then}
+use Rattle.splice.proofs.Laws.Put.{put_as, put_then}
 use Rattle.rate_text.specs.Answers.{text_of}
 use Rattle.decimals.specs.Decimal.{decimal, spaced, written}
-use Rattle.decimals.specs.Laws.Decimal.{count_64, spaced_append}
+use Rattle.decimals.proofs.Laws.Decimal.{count_64, spaced_append}
 use Rattle.rate_text.proofs.put_answer.Statement.{statement}
 use Rattle.rate_text.proofs.put_answer.Tie as tie
 

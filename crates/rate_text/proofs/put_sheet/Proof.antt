@@ -9,9 +9,9 @@ use native.Mathlib.Omega.{arith}
 use lib.ListN.{length, get_or, take}
 use lib.Seq.{take-suc, take_all}
 use Rattle.splice.specs.Put.{Put, PutWithin}
-use Rattle.splice.specs.Laws.Put.{put_as, put_nothing, put_then}
+use Rattle.splice.proofs.Laws.Put.{put_as, put_nothing, put_then}
 use Rattle.decimals.specs.Decimal.{spaced}
-use Rattle.decimals.specs.Laws.Decimal.{spaced_append}
+use Rattle.decimals.proofs.Laws.Decimal.{spaced_append}
 use Rattle.rate_text.proofs.put_sheet.Statement.{statement}
 use Rattle.rate_text.proofs.put_sheet.Tie as tie
 

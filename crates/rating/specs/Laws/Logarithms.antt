@@ -1,34 +1,11 @@
--- The logarithms of a case that refusals 1 to 7 let pass: stage 5's promises of each that its arrangement has, and fractions that may stand
--- for them, for pi and for ln 2. So what is proved of all such fractions is proved of some. Assumes nothing.
-use Rattle.std.specs.Prelude.{◌≡◌, true, List, ℕ, ◌*◌, ◌^◌}
+-- Fractions that may stand for pi, ln 2 and the logarithms of a case, so that what is said of all such fractions is said of some.
+-- Assumes nothing.
+use Rattle.std.specs.Prelude.{List, ℕ, ◌*◌, ◌^◌}
 use Rattle.exact.specs.Fraction.{◌over◌}
 use Rattle.formulas.specs.Constants.{tera, pi_low, ln2_low}
 use Rattle.formulas.specs.Logarithm.{log_low}
-use Rattle.formulas.specs.Laws.LogEndsOrder.{pi_exists, ln2_exists, log_exists}
-use Rattle.formulas.specs.Laws.LogPromised.{LogPromised, spacing_promised, insulation_promised}
 use Rattle.fields.specs.Fields as Field
 use Rattle.rating.specs.Chosen.{Chosen}
-use Rattle.rating.specs.Arrangements.{own}
-use Rattle.rating.specs.Allowed.{Allowed}
-use Rattle.rating.specs.FieldRefusals.{field_refusal}
-use Rattle.rating.specs.Laws.Sound.{sound}
-use Rattle.rating.specs.Laws.Arrangements.{lawful}
-
-pub record Promised (x : List ℕ) : Type 0 where
-  pub insulation : LogPromised (Field.insulation_diameter x) (Field.screen_diameter x)
-  pub spacing : (own x).reactive ≡ true → LogPromised (2 * Field.spacing x) (Field.sheath_diameter x)
-
-pub promised : (x : List ℕ) → field_refusal x ≡ 0 → Promised x
-promised x none_given =
-    let fine = sound x none_given in
-    record {
-      insulation = insulation_promised fine.screen_diameter.least fine.insulated fine.insulation_diameter.most;
-      spacing =
-          λ reactive.
-          spacing_promised fine.sheath_diameter.least
-          ((lawful (Field.arrangement x)).apart reactive fine.geometry)
-          fine.spacing.most;
-    }
 
 -- the lower end of each
 abbrev pub lowest : List ℕ → Chosen
@@ -38,13 +15,4 @@ lowest x =
       ln2 = ln2_low over tera;
       log_spacing = log_low (2 * Field.spacing x) (Field.sheath_diameter x) over tera;
       log_insulation = log_low (Field.insulation_diameter x) (Field.screen_diameter x) over tera;
-    }
-
-pub lowest_allowed : (x : List ℕ) → Allowed (own x) x (lowest x)
-lowest_allowed x =
-    record {
-      pi = pi_exists;
-      ln2 = ln2_exists;
-      log_spacing = λ reactive. log_exists (2 * Field.spacing x) (Field.sheath_diameter x);
-      log_insulation = log_exists (Field.insulation_diameter x) (Field.screen_diameter x);
     }

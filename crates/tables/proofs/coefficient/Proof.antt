@@ -1,7 +1,7 @@
 -- `tables::coefficient` is the definition: as all entries agree with it, this one does.
 use borrow.Author.Rules.{rules}
 use borrow.Author.Tests.{eqb-true}
-use Rattle.formulas.specs.Laws.TableRule.{at_code}
+use Rattle.formulas.proofs.Laws.TableRule.{at_code}
 use Rattle.tables.specs.Laws.Agree.{coefficient_agrees}
 use Rattle.tables.proofs.coefficient.Statement.{statement}
 use Rattle.tables.proofs.coefficient.Tie as tie

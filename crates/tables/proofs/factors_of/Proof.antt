@@ -1,6 +1,6 @@
 -- `tables::factors_of` hands out the row of a code: as all rows agree with the definition, this one does.
 use borrow.Author.Rules.{rules}
-use Rattle.formulas.specs.Laws.TableRule.{at_code}
+use Rattle.formulas.proofs.Laws.TableRule.{at_code}
 use Rattle.tables.specs.Laws.Agree.{factors_agree, agreeing_factors}
 use Rattle.tables.proofs.factors_of.Statement.{statement}
 use Rattle.tables.proofs.factors_of.Tie as tie

@@ -1,7 +1,7 @@
 -- That a row of a table is the definition's for its code, as a test which antt computes over the whole table. Assumes nothing.
 use Rattle.std.proofs.Common.{eqb-true}
 use Rattle.std.specs.Prelude.{Bool, true, ◌&&◌, ◌≡◌, ℕ, eqb}
-use Rattle.bools.specs.Laws.Tests.{both}
+use Rattle.bools.proofs.Laws.Tests.{both}
 use Rattle.formulas.specs.Tables.{ks, kp, coefficient}
 use Rattle.tables.specs.declared.Factors.{Factors}
 

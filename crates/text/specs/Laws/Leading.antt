@@ -4,7 +4,7 @@ use Rattle.std.specs.Prelude.{Bool, true, List, [], ◌∷◌, ◌≡◌, refl, 
 use Rattle.std.proofs.Common.{sym, ap, ◌∙◌, le_refl, lt_of_lt_of_le, pow-suc, add-one, arith, lit<}
 use Rattle.std.proofs.Math.Nat.{pow-le-pow_right}
 use borrow.Author.Tests.{le-leb, ne_eqb, ltb-true, leb-true}
-use Rattle.bools.specs.Laws.Tests.{both}
+use Rattle.bools.proofs.Laws.Tests.{both}
 use Rattle.text.specs.declared.number.Reading.{Reading}
 use Rattle.text.specs.declared.number.Reading.TheVariants.{Number}
 use Rattle.text.specs.Gather.{piece}

@@ -4,10 +4,10 @@ use Rattle.std.specs.Prelude.{Bool, true, false, List, [], ◌∷◌, ◌++◌, 
 use Rattle.std.proofs.lemmas.Bool.{false≢true, lt-leb}
 use Rattle.std.proofs.Math.Bool.{and-false}
 use Rattle.std.proofs.Common.{sym, ap, ◌∙◌, le_of_suc-le-suc, arith, le-leb, ne_eqb}
-use Rattle.bools.specs.Laws.Tests.{both}
+use Rattle.bools.proofs.Laws.Tests.{both}
 use Rattle.text.specs.declared.number.Reading.TheVariants.{Number}
 use Rattle.decimals.specs.Decimal.{decimal}
-use Rattle.decimals.specs.Laws.Decimal.{decimal_small, decimal_large, decimal_ind, count_positive}
+use Rattle.decimals.proofs.Laws.Decimal.{decimal_small, decimal_large, decimal_ind, count_positive}
 use Rattle.text.specs.Number.{is_digit, every, value_from, value, read_digits, read_number}
 use Rattle.text.specs.Words.{is_empty}
 

@@ -2,7 +2,7 @@
 use Rattle.std.specs.Prelude.{true, List, [], ◌∷◌, ◌++◌, ◌≡◌, refl, ℕ, suc, ◌*◌, ◌^◌, ◌≤◌, ◌<◌, length}
 use Rattle.std.proofs.Common.{ap, subst, ◌∙◌, lt_trans, arith, lit<, length-append}
 use Rattle.decimals.specs.Decimal.{decimal, spaced, written}
-use Rattle.decimals.specs.Laws.Decimal.{count_positive, count_below}
+use Rattle.decimals.proofs.Laws.Decimal.{count_positive, count_below}
 use Rattle.text.specs.declared.number.Reading.{Reading}
 use Rattle.text.specs.Line.{a_case, before, field, fields, longest_line, read_line_of, read_line}
 use Rattle.fields.specs.Fields.{width}

@@ -10,7 +10,7 @@ use native.Mathlib.Omega.{arith}
 use borrow.Author.Tests.{le-ltb, ne_eqb, not-true}
 use Rattle.std.proofs.Math.ListN.{length, length-append}
 use Rattle.std.proofs.Math.Seq.{take-append_seam, drop-append_seam, get_or-append_seam, take-length}
-use Rattle.bools.specs.Laws.Tests.{both}
+use Rattle.bools.proofs.Laws.Tests.{both}
 use Rattle.text.specs.Line.{Said, passed_over, a_case, unreadable, field, fields, says, text_length, longest_line, read_line_of}
 use Rattle.text.specs.Number.{is_digit, is_numeral, every, read_digits, read_number}
 use Rattle.text.specs.Laws.Number.{every_at, differ}

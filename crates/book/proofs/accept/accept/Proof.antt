@@ -10,9 +10,9 @@ use Rattle.book_laws.specs.Layout.{rbk1}
 use Rattle.book_laws.specs.Record.{place_from, agrees, all_agree}
 use Rattle.book_laws.specs.Accept.{unaccepted, accept_after, accept_in}
 use Rattle.book_laws.specs.Book.{describe, accept_of}
-use Rattle.book_laws.specs.Laws.Trailer.{Described, on_book_on, on_book_refused}
-use Rattle.book_laws.specs.Laws.Record.{all_agree_none, all_agree_next, all_agree_stop}
-use Rattle.book_laws.specs.Laws.Disagreeing.{disagreeing_at}
+use Rattle.book_laws.proofs.Laws.Trailer.{Described, on_book_on, on_book_refused}
+use Rattle.book_laws.proofs.Laws.Record.{all_agree_none, all_agree_next, all_agree_stop}
+use Rattle.book_laws.proofs.Laws.Disagreeing.{disagreeing_at}
 use Rattle.book_bytes.specs.declared.trailer.Description as Code
 use Rattle.book_bytes.specs.Answers.{description_of}
 use Rattle.book.proofs.Described.{of_book}

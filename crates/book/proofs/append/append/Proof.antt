@@ -13,7 +13,7 @@ use Rattle.splice.specs.Splice.{splice}
 use Rattle.book_laws.specs.Layout.{rbk1, record_length, trailer_length}
 use Rattle.book_laws.specs.Format.{record_bytes, trailer_bytes}
 use Rattle.book_laws.specs.Book.{describe, append_of}
-use Rattle.book_laws.specs.Laws.Trailer.{on_book_on, on_book_refused}
+use Rattle.book_laws.proofs.Laws.Trailer.{on_book_on, on_book_refused}
 use Rattle.book_laws.specs.Start.{Written, unwritten}
 use Rattle.book_laws.specs.Append.{append_after, append_in}
 use Rattle.book_bytes.specs.declared.trailer.Description as Code

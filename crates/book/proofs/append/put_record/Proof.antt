@@ -5,14 +5,14 @@ use Prim.Native.Nat.{ℕ, ◌+◌, ◌≤◌}
 use native.Mathlib.Omega.{arith}
 use lib.ListN.{length}
 use Rattle.splice.specs.Splice.{splice}
-use Rattle.splice.specs.Laws.Splice.{splice_after}
+use Rattle.splice.proofs.Laws.Splice.{splice_after}
 use Rattle.rating.specs.Rate.{Answer, answer_of, rate_of}
 use Rattle.rating.specs.declared.rate.Answer as Code
 use Rattle.book_bytes.specs.Laws.Steps.{FieldsMade}
 use Rattle.book_laws.specs.Bytes.{words_bytes}
 use Rattle.book_laws.specs.Layout.{rbk1, record_length}
 use Rattle.book_laws.specs.Format.{fields_of, record_bytes, trailer_bytes}
-use Rattle.book_laws.specs.Laws.Bytes.{words_bytes_length}
+use Rattle.book_laws.proofs.Laws.Bytes.{words_bytes_length}
 use borrow.Author.Rules.{rules}
 use Rattle.book.proofs.append.put_record.Statement.{statement}
 use Rattle.book.proofs.append.put_record.Tie as tie

@@ -9,7 +9,7 @@ use Rattle.book_laws.specs.Layout.{rbk1, record_fields}
 use Rattle.book_laws.specs.Record.{place_from}
 use Rattle.book_laws.specs.Read.{unread, read_after, read_in}
 use Rattle.book_laws.specs.Book.{describe, read_of}
-use Rattle.book_laws.specs.Laws.Trailer.{on_book_on, on_book_refused}
+use Rattle.book_laws.proofs.Laws.Trailer.{on_book_on, on_book_refused}
 use Rattle.book_bytes.specs.declared.trailer.Description as Code
 use Rattle.book_bytes.specs.Answers.{description_of}
 use Rattle.book.proofs.Described.{Inside, inside}

@@ -5,7 +5,7 @@ use Prim.Native.Nat.{ℕ, suc, ◌+◌, ◌≤◌}
 use native.Mathlib.Omega.{arith}
 use lib.ListN.{length, set, length-set}
 use Rattle.splice.specs.Splice.{splice}
-use Rattle.splice.specs.Laws.Splice.{splice_sets}
+use Rattle.splice.proofs.Laws.Splice.{splice_sets}
 use borrow.Author.Rules.{rules}
 use Rattle.book_bytes.proofs.field.put_four.Statement.{statement}
 use Rattle.book_bytes.proofs.field.put_four.Tie as tie

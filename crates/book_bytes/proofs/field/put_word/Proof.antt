@@ -1,7 +1,7 @@
 -- `book_bytes::field::put_word` meets its contract: the four bytes are those of the word. Assumes nothing.
 use mathlib.Core.Path.{sym, ap, ◌∙◌}
 use Rattle.splice.specs.Splice.{splice}
-use Rattle.book_laws.specs.Laws.Bytes.{word_digits}
+use Rattle.book_laws.proofs.Laws.Bytes.{word_digits}
 use borrow.Author.Rules.{rules}
 use Rattle.book_bytes.proofs.field.put_word.Statement.{statement}
 use Rattle.book_bytes.proofs.field.put_word.Tie as tie

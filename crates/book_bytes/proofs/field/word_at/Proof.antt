@@ -1,6 +1,6 @@
 -- `book_bytes::field::word_at` meets its contract: the four bytes joined are the word. Assumes nothing.
 use mathlib.Core.Path.{◌∙◌}
-use Rattle.book_laws.specs.Laws.Bytes.{word_joined}
+use Rattle.book_laws.proofs.Laws.Bytes.{word_joined}
 use borrow.Author.Rules.{rules}
 use Rattle.book_bytes.proofs.field.word_at.Statement.{statement}
 use Rattle.book_bytes.proofs.field.word_at.Tie as tie

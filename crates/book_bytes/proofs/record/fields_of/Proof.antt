@@ -6,7 +6,7 @@ use Prim.Native.Nat.{ℕ, ◌+◌, ◌-◌, ◌≤◌}
 use native.Mathlib.Omega.{arith}
 use lib.ListN.{length, take, set, length-set}
 use lib.Seq.{take_all, take-suc-set}
-use Rattle.splice.specs.Laws.Splice.{copy_one}
+use Rattle.splice.proofs.Laws.Splice.{copy_one}
 use Rattle.fields.specs.Fields.{width}
 use Rattle.book_laws.specs.Layout.{rbk1, record_fields}
 use Rattle.book_bytes.specs.Laws.Steps.{FieldsMade}

@@ -7,10 +7,10 @@ use native.Mathlib.Omega.{arith}
 use lib.ListN.{length, get_or, take}
 use lib.Seq.{length-take-le, take_all}
 use Rattle.splice.specs.Splice.{splice}
-use Rattle.splice.specs.Laws.Splice.{splice_nothing, splice_after}
+use Rattle.splice.proofs.Laws.Splice.{splice_nothing, splice_after}
 use Rattle.book_laws.specs.Layout.{rbk1, record_fields}
 use Rattle.book_laws.specs.Bytes.{word_bytes, words_bytes}
-use Rattle.book_laws.specs.Laws.Bytes.{words_bytes_length, words_bytes_next}
+use Rattle.book_laws.proofs.Laws.Bytes.{words_bytes_length, words_bytes_next}
 use Rattle.book_bytes.proofs.record.put_fields.Statement.{statement}
 use Rattle.book_bytes.proofs.record.put_fields.Tie as tie
 

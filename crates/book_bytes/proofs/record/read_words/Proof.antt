@@ -8,7 +8,7 @@ use native.Mathlib.Omega.{arith}
 use lib.ListN.{length, take, set, length-set}
 use lib.Seq.{take_all, take-suc-set}
 use Rattle.book_laws.specs.Bytes.{word_at, words_at}
-use Rattle.book_laws.specs.Laws.Bytes.{words_at_next}
+use Rattle.book_laws.proofs.Laws.Bytes.{words_at_next}
 use Rattle.book_bytes.proofs.record.read_words.Statement.{statement}
 use Rattle.book_bytes.proofs.record.read_words.Tie as tie
 

@@ -7,7 +7,7 @@ use borrow.Author.Tests.{not-true, not-false}
 use Rattle.book_laws.specs.Bytes.{word_at, stands}
 use Rattle.book_laws.specs.Layout.{rbk1}
 use Rattle.book_laws.specs.Trailer.{undescribed, wrong_trailer, describe_at}
-use Rattle.book_laws.specs.Laws.Trailer.{right}
+use Rattle.book_laws.proofs.Laws.Trailer.{right}
 use borrow.Author.Rules.{rules}
 use Rattle.book_bytes.proofs.trailer.describe_at.Statement.{statement}
 use Rattle.book_bytes.proofs.trailer.describe_at.Tie as tie

@@ -6,9 +6,9 @@ use native.Mathlib.Omega.{arith}
 use lib.ListN.{length}
 use Rattle.splice.specs.Splice.{splice}
 use Rattle.splice.specs.Put.{Put}
-use Rattle.splice.specs.Laws.Put.{put_then}
+use Rattle.splice.proofs.Laws.Put.{put_then}
 use Rattle.book_laws.specs.Bytes.{word_bytes}
-use Rattle.book_laws.specs.Laws.Bytes.{number_bytes_length}
+use Rattle.book_laws.proofs.Laws.Bytes.{number_bytes_length}
 use Rattle.book_laws.specs.Layout.{rbk1, record_length}
 use Rattle.book_laws.specs.Format.{trailer_bytes}
 use borrow.Author.Rules.{rules}

@@ -2,7 +2,7 @@
 -- Assumes nothing.
 use native.Mathlib.Omega.{arith}
 use borrow.Author.Rules.{rules}
-use Rattle.bools.specs.Laws.Tests.{other_outcome}
+use Rattle.bools.proofs.Laws.Tests.{other_outcome}
 use Rattle.line_in_place.specs.Laws.NumberAt.{with_sign}
 use Rattle.text.specs.Laws.Leading.{number_in}
 use Rattle.line_in_place.proofs.number.negative_at.Statement.{statement}

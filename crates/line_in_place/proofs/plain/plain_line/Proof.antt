@@ -12,7 +12,7 @@ use borrow.Author.Tests.{not-false}
 use lib.Dec.{eqb, lit≤}
 use lib.ListN.{length, get_or, take, set, length-set}
 use lib.Seq.{take_all, take-suc-set}
-use Rattle.bools.specs.Laws.Tests.{other_outcome}
+use Rattle.bools.proofs.Laws.Tests.{other_outcome}
 use Rattle.line_in_place.specs.NumberAt.{NumberAt}
 use Rattle.line_in_place.specs.Plain.{PlainLine, longest_plain}
 use Rattle.line_in_place.specs.Laws.Row.{Row, row_none, row_more, row_ends}

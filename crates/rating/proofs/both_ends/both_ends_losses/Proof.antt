@@ -3,8 +3,8 @@ use mathlib.Core.Path.{refl, sym, ap, ◌∙◌}
 use Rattle.formulas.specs.Sheath.{circulating_loss}
 use Rattle.rating.specs.Arrangement.{alternating}
 use Rattle.rating.specs.BothEnds.{both_ends}
-use Rattle.rating.specs.Laws.Ranges.{circulating_ranges}
-use Rattle.rating.specs.Laws.BothEnds.{both_ends_apart}
+use Rattle.rating.proofs.Laws.Ranges.{circulating_ranges}
+use Rattle.rating.proofs.Laws.BothEnds.{both_ends_apart}
 use Rattle.rating.proofs.both_ends.both_ends_losses.Statement.{statement}
 use Rattle.rating.proofs.both_ends.both_ends_losses.Tie as tie
 

@@ -4,10 +4,10 @@ use mathlib.Core.Path.{ap, ◌∙◌}
 use native.Mathlib.Omega.{arith}
 use Rattle.formulas.specs.Tables.{coefficient}
 use Rattle.formulas.specs.Resistance.{resistance}
-use Rattle.formulas.specs.Laws.TableRange.{conductor_metal_range}
+use Rattle.formulas.proofs.Laws.TableRange.{conductor_metal_range}
 use Rattle.fields.specs.Fields as Field
 use Rattle.rating.specs.Values.{R'}
-use Rattle.rating.specs.Laws.Ranges.{above_cold}
+use Rattle.rating.proofs.Laws.Ranges.{above_cold}
 use Rattle.rating.proofs.case.conductor_resistance.Statement.{statement}
 use Rattle.rating.proofs.case.conductor_resistance.Tie as tie
 

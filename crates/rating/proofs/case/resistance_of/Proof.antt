@@ -4,7 +4,7 @@ use native.Mathlib.Omega.{arith}
 use mir.Syntax.{w32}
 use mir.Val.{to_z}
 use Rattle.formulas.specs.Resistance.{resistance}
-use Rattle.formulas.specs.Laws.TableRange.{coefficient_most}
+use Rattle.formulas.proofs.Laws.TableRange.{coefficient_most}
 use Rattle.rating.proofs.case.resistance_of.Statement.{statement}
 use Rattle.rating.proofs.case.resistance_of.Tie as tie
 

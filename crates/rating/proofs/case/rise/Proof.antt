@@ -1,6 +1,6 @@
 -- `rise` is the definition: refusal 6 and the limits give its range.
 use borrow.Author.Rules.{rules}
-use Rattle.rating.specs.Laws.Rise.{rise_range}
+use Rattle.rating.proofs.Laws.Rise.{rise_range}
 use Rattle.rating.specs.Values.{rise_of}
 use Rattle.rating.proofs.case.rise.Statement.{statement}
 use Rattle.rating.proofs.case.rise.Tie as tie

@@ -3,7 +3,7 @@ use borrow.Author.Rules.{rules}
 use mathlib.Core.Path.{◌∙◌}
 use native.Mathlib.Omega.{arith}
 use Rattle.formulas.specs.Skin.{skin_ratio}
-use Rattle.rating.specs.Laws.Ranges.{R'_range}
+use Rattle.rating.proofs.Laws.Ranges.{R'_range}
 use Rattle.rating.proofs.case.skin_ratio_of.Statement.{statement}
 use Rattle.rating.proofs.case.skin_ratio_of.Tie as tie
 

@@ -6,8 +6,8 @@ use Rattle.formulas.specs.CommonSheath.{common_loss}
 use Rattle.rating.specs.Arrangement.{alternating}
 use Rattle.rating.specs.CommonSheath.{common_sheath}
 use Rattle.rating.specs.Laws.Fit.{Fit}
-use Rattle.rating.specs.Laws.Ranges.{Rs_range, B_range}
-use Rattle.rating.specs.Laws.CommonSheath.{Enclosed, enclosed}
+use Rattle.rating.proofs.Laws.Ranges.{Rs_range, B_range}
+use Rattle.rating.proofs.Laws.CommonSheath.{Enclosed, enclosed}
 use Rattle.rating.proofs.common_sheath.common_sheath_losses.Statement.{statement}
 use Rattle.rating.proofs.common_sheath.common_sheath_losses.Tie as tie
 

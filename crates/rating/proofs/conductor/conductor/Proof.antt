@@ -6,8 +6,8 @@ use Rattle.formulas.specs.Skin.{skin_ratio_squared, factor, skin_factor}
 use Rattle.formulas.specs.Proximity.{spacing_ratio, proximity_factor, ac_resistance}
 use Rattle.fields.specs.Fields as Field
 use Rattle.rating.specs.Values.{zs, zp, ys, G, yp, R}
-use Rattle.rating.specs.Laws.Ranges.{R'_range, ys_most, G_most, u_most, yp_most}
-use Rattle.rating.specs.Laws.Stage10.{spaced}
+use Rattle.rating.proofs.Laws.Ranges.{R'_range, ys_most, G_most, u_most, yp_most}
+use Rattle.rating.proofs.Laws.Stage10.{spaced}
 use Rattle.rating.proofs.conductor.conductor.Statement.{statement}
 use Rattle.rating.proofs.conductor.conductor.Tie as tie
 

@@ -6,7 +6,7 @@ use Rattle.formulas.specs.Logarithm.{log_low}
 use Rattle.formulas.specs.Dielectric.{dielectric_loss}
 use Rattle.fields.specs.Fields as Field
 use Rattle.rating.specs.Values.{Wd}
-use Rattle.rating.specs.Laws.Ranges.{B_range, insulation_log_range}
+use Rattle.rating.proofs.Laws.Ranges.{B_range, insulation_log_range}
 use Rattle.rating.proofs.dielectric.dielectric_loss_of.Statement.{statement}
 use Rattle.rating.proofs.dielectric.dielectric_loss_of.Tie as tie
 

@@ -3,7 +3,7 @@ use borrow.Author.Rules.{rules}
 use mathlib.Core.Path.{◌∙◌}
 use native.Mathlib.Omega.{arith}
 use Rattle.formulas.specs.Dielectric.{dielectric_rise}
-use Rattle.rating.specs.Laws.Ranges.{Wd_most, thermal_ranges}
+use Rattle.rating.proofs.Laws.Ranges.{Wd_most, thermal_ranges}
 use Rattle.rating.proofs.dielectric.dielectric_rise_of.Statement.{statement}
 use Rattle.rating.proofs.dielectric.dielectric_rise_of.Tie as tie
 

@@ -6,18 +6,19 @@ use Prim.Native.Nat.{◌*◌, ◌≤◌}
 use native.Mathlib.Omega.{arith}
 use lib.Dec.{ltb}
 use borrow.Author.Tests.{eq-eqb, ltb-false}
-use Rattle.bools.specs.Laws.Tests.{neither, not_both}
+use Rattle.bools.proofs.Laws.Tests.{neither, not_both}
 use Rattle.formulas.specs.Tables.{ks, kp}
 use Rattle.formulas.specs.Skin.{skin_ratio}
 use Rattle.formulas.specs.Refusals.{skin_refused, eddy_refused}
-use Rattle.formulas.specs.Laws.TableRange.{ks_most, kp_most}
+use Rattle.formulas.proofs.Laws.TableRange.{ks_most, kp_most}
 use Rattle.fields.specs.Fields as Field
 use Rattle.rating.specs.Values.{R', Rs, B, zs, zp}
 use Rattle.rating.specs.Arrangements.{own}
 use Rattle.rating.specs.Rate.{loaded, judged, rate_of, rate_of_is}
-use Rattle.rating.specs.Laws.Sound.{Sound, sound}
+use Rattle.rating.specs.Laws.Sound.{Sound}
+use Rattle.rating.proofs.Laws.Sound.{sound}
 use Rattle.rating.specs.Laws.Fit.{Fit}
-use Rattle.rating.specs.Laws.Ranges.{B_range}
+use Rattle.rating.proofs.Laws.Ranges.{B_range}
 use Rattle.rating.proofs.judge.judge_stages.Statement.{statement}
 use Rattle.rating.proofs.judge.judge_stages.Tie as tie
 

@@ -7,8 +7,8 @@ use Rattle.formulas.specs.Dielectric.{permitted_rise, current_rise}
 use Rattle.formulas.specs.Rating.{rating}
 use Rattle.rating.specs.Values.{rise_of}
 use Rattle.rating.specs.Stage10.{N, current_of}
-use Rattle.rating.specs.Laws.Rise.{rise_range}
-use Rattle.rating.specs.Laws.Stage10.{E_range}
+use Rattle.rating.proofs.Laws.Rise.{rise_range}
+use Rattle.rating.proofs.Laws.Stage10.{E_range}
 use Rattle.rating.proofs.load.current_of.Statement.{statement}
 use Rattle.rating.proofs.load.current_of.Tie as tie
 

@@ -11,9 +11,9 @@ use Rattle.rating.specs.Values.{rise_of}
 use Rattle.rating.specs.Arrangement.{alternating}
 use Rattle.rating.specs.Stage10.{numbers_of}
 use Rattle.rating.specs.Rate.{rated, loaded, sheet_of}
-use Rattle.rating.specs.Laws.Rise.{rise_range}
-use Rattle.rating.specs.Laws.Arrangement.{InRange}
-use Rattle.rating.specs.Laws.Stage10.{numbers_in_range}
+use Rattle.rating.proofs.Laws.Rise.{rise_range}
+use Rattle.rating.proofs.Laws.Arrangement.{InRange}
+use Rattle.rating.proofs.Laws.Stage10.{numbers_in_range}
 use Rattle.rating.proofs.load.load.Statement.{statement}
 use Rattle.rating.proofs.load.load.Tie as tie
 

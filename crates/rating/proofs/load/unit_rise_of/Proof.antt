@@ -7,9 +7,9 @@ use Rattle.formulas.specs.Rating.{unit_rise}
 use Rattle.fields.specs.Fields as Field
 use Rattle.rating.specs.Arrangement.{Numbers, alternating}
 use Rattle.rating.specs.Stage10.{E}
-use Rattle.rating.specs.Laws.Ranges.{thermal_ranges}
-use Rattle.rating.specs.Laws.Arrangement.{InRange}
-use Rattle.rating.specs.Laws.Stage10.{numbers_in_range}
+use Rattle.rating.proofs.Laws.Ranges.{thermal_ranges}
+use Rattle.rating.proofs.Laws.Arrangement.{InRange}
+use Rattle.rating.proofs.Laws.Stage10.{numbers_in_range}
 use Rattle.rating.proofs.load.unit_rise_of.Statement.{statement}
 use Rattle.rating.proofs.load.unit_rise_of.Tie as tie
 

@@ -6,8 +6,8 @@ use Rattle.formulas.specs.Sheath.{eddy_loss}
 use Rattle.rating.specs.Arrangement.{alternating}
 use Rattle.rating.specs.OnePoint.{one_point}
 use Rattle.rating.specs.Laws.Fit.{Fit}
-use Rattle.rating.specs.Laws.Ranges.{Rs_range}
-use Rattle.rating.specs.Laws.OnePoint.{one_point_apart, eddies_small}
+use Rattle.rating.proofs.Laws.Ranges.{Rs_range}
+use Rattle.rating.proofs.Laws.OnePoint.{one_point_apart, eddies_small}
 use Rattle.rating.proofs.one_point.one_point_losses.Statement.{statement}
 use Rattle.rating.proofs.one_point.one_point_losses.Tie as tie
 

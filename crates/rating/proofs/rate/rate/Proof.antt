@@ -10,7 +10,7 @@ use Rattle.rating.specs.declared.arrangement.Kind.{Kind}
 use Rattle.rating.specs.Arrangements.{no_arrangement, arrangement_of, own}
 use Rattle.rating.specs.FieldRefusals.{arrangement_refused, field_refusal}
 use Rattle.rating.specs.Rate.{refused, judged, rate_of, rate_of_is}
-use Rattle.rating.specs.Laws.Arrangements.{other_is}
+use Rattle.rating.proofs.Laws.Arrangements.{other_is}
 use Rattle.rating.specs.Laws.Steps.{Has}
 use Rattle.rating.proofs.rate.rate.Statement.{statement}
 use Rattle.rating.proofs.rate.rate.Tie as tie

@@ -4,10 +4,10 @@ use mathlib.Core.Path.{◌≡◌, ◌∙◌, ap}
 use native.Mathlib.Omega.{arith}
 use Rattle.formulas.specs.Reactance.{reactance_low}
 use Rattle.formulas.specs.Spacing.{spacing_log_low, sheath_reactance_low}
-use Rattle.formulas.specs.Laws.Ranges.{reactance_low_most}
+use Rattle.formulas.proofs.Laws.Ranges.{reactance_low_most}
 use Rattle.fields.specs.Fields as Field
 use Rattle.rating.specs.Values.{XLow}
-use Rattle.rating.specs.Laws.Ranges.{spacing_log_low_most}
+use Rattle.rating.proofs.Laws.Ranges.{spacing_log_low_most}
 use Rattle.rating.proofs.sheath_reactance.sheath_reactance_low_of.Statement.{statement}
 use Rattle.rating.proofs.sheath_reactance.sheath_reactance_low_of.Tie as tie
 

@@ -5,7 +5,7 @@ use native.Mathlib.Omega.{arith}
 use Rattle.formulas.specs.Spacing.{spacing_log_high, sheath_reactance}
 use Rattle.fields.specs.Fields as Field
 use Rattle.rating.specs.Values.{X}
-use Rattle.rating.specs.Laws.Ranges.{B_range, spacing_log_high_most}
+use Rattle.rating.proofs.Laws.Ranges.{B_range, spacing_log_high_most}
 use Rattle.rating.proofs.sheath_reactance.sheath_reactance_of.Statement.{statement}
 use Rattle.rating.proofs.sheath_reactance.sheath_reactance_of.Tie as tie
 

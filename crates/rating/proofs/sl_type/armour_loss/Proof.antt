@@ -4,13 +4,13 @@ use mathlib.Core.Path.{◌≡◌, ◌∙◌}
 use Prim.Native.Nat.{◌<◌}
 use native.Mathlib.Omega.{arith}
 use Rattle.formulas.specs.Armour.{unscreened_loss, screened_loss, armour_loss}
-use Rattle.formulas.specs.Laws.Ranges.{unscreened_loss_most}
+use Rattle.formulas.proofs.Laws.Ranges.{unscreened_loss_most}
 use Rattle.fields.specs.Fields as Field
 use Rattle.rating.specs.Values.{RA, B}
 use Rattle.rating.specs.SlType.{sl_type}
 use Rattle.rating.specs.Laws.Fit.{Fit}
-use Rattle.rating.specs.Laws.Ranges.{Rs_range, B_range, X_low_range}
-use Rattle.rating.specs.Laws.SlType.{Armoured, armoured, RA_range}
+use Rattle.rating.proofs.Laws.Ranges.{Rs_range, B_range, X_low_range}
+use Rattle.rating.proofs.Laws.SlType.{Armoured, armoured, RA_range}
 use Rattle.rating.proofs.sl_type.armour_loss.Statement.{statement}
 use Rattle.rating.proofs.sl_type.armour_loss.Tie as tie
 

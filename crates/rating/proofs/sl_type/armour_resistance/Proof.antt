@@ -1,7 +1,7 @@
 -- `armour_resistance` is the definition: stage 1 within the limits of the armour.
 use borrow.Author.Rules.{rules}
 use Rattle.rating.specs.Values.{RA}
-use Rattle.rating.specs.Laws.SlType.{armoured}
+use Rattle.rating.proofs.Laws.SlType.{armoured}
 use Rattle.rating.proofs.sl_type.armour_resistance.Statement.{statement}
 use Rattle.rating.proofs.sl_type.armour_resistance.Tie as tie
 

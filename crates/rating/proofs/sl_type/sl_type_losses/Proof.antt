@@ -4,8 +4,8 @@ use mathlib.Core.Path.{sym, ◌∙◌}
 use Rattle.formulas.specs.Sheath.{sl_loss}
 use Rattle.rating.specs.Arrangement.{alternating}
 use Rattle.rating.specs.SlType.{sl_type}
-use Rattle.rating.specs.Laws.Ranges.{circulating_ranges}
-use Rattle.rating.specs.Laws.SlType.{armoured}
+use Rattle.rating.proofs.Laws.Ranges.{circulating_ranges}
+use Rattle.rating.proofs.Laws.SlType.{armoured}
 use Rattle.rating.proofs.sl_type.sl_type_losses.Statement.{statement}
 use Rattle.rating.proofs.sl_type.sl_type_losses.Tie as tie
 

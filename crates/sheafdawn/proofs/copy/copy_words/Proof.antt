@@ -5,7 +5,7 @@ use Prim.Native.Nat.{◌-◌, ◌≤◌}
 use native.Mathlib.Omega.{arith}
 use lib.ListN.{length, take, length-set}
 use lib.Seq.{take_all}
-use Rattle.splice.specs.Laws.Splice.{copy_one}
+use Rattle.splice.proofs.Laws.Splice.{copy_one}
 use Rattle.sheafdawn.proofs.copy.copy_words.Statement.{statement}
 use Rattle.sheafdawn.proofs.copy.copy_words.Tie as tie
 

@@ -8,7 +8,7 @@ use native.Mathlib.Omega.{arith}
 use lib.ListN.{length, get_or, take, set, length-set}
 use lib.Seq.{length-take-le, take_all, take-suc}
 use Rattle.splice.specs.Splice.{splice}
-use Rattle.splice.specs.Laws.Splice.{splice_nothing, splice_one, splice_after}
+use Rattle.splice.proofs.Laws.Splice.{splice_nothing, splice_one, splice_after}
 use Rattle.sheafdawn.proofs.copy.put_sheet.Statement.{statement}
 use Rattle.sheafdawn.proofs.copy.put_sheet.Tie as tie
 

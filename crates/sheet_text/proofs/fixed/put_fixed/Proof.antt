@@ -8,8 +8,8 @@ use borrow.Author.Rules.{rules}
 use lib.Dec.{lit<}
 use lib.ListN.{length}
 use Rattle.decimals.specs.Decimal.{decimal}
-use Rattle.decimals.specs.Laws.Decimal.{count_64}
-use Rattle.splice.specs.Laws.Put.{put_as}
+use Rattle.decimals.proofs.Laws.Decimal.{count_64}
+use Rattle.splice.proofs.Laws.Put.{put_as}
 use Rattle.sheet_text.proofs.Points.{fixed_none, point_put}
 use Rattle.sheet_text.proofs.fixed.put_fixed.Statement.{statement}
 use Rattle.sheet_text.proofs.fixed.put_fixed.Tie as tie

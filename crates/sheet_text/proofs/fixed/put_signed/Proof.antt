@@ -8,7 +8,7 @@ use native.Mathlib.Omega.{arith}
 use borrow.Author.Rules.{rules}
 use Rattle.sheet_text.specs.declared.fixed.Value.{Value}
 use Rattle.sheet_text.specs.Fixed.{fixed, signed}
-use Rattle.splice.specs.Laws.Put.{put_as, put_then}
+use Rattle.splice.proofs.Laws.Put.{put_as, put_then}
 use Rattle.sheet_text.proofs.fixed.put_signed.Statement.{statement}
 use Rattle.sheet_text.proofs.fixed.put_signed.Tie as tie
 

@@ -6,7 +6,7 @@ use Rattle.exact.specs.Rounding.{up, down}
 use Rattle.exact.specs.Trillion.{trillion}
 use Rattle.formulas.specs.Constants.{tera}
 use Rattle.formulas.specs.Armour.{armour_ratio, armour_ratio_squared, reduced_armour_resistance}
-use Rattle.formulas.specs.Laws.LogRange.{down_bounded}
+use Rattle.formulas.proofs.Laws.LogRange.{down_bounded}
 use Rattle.formulas.specs.Laws.Bounds.{most_resistance, most_armour_ratio, most_armour_ratio_squared}
 use Rattle.stages.proofs.Quotients.{quotient_up_fits, quotient_down_fits, square_most, square_fits}
 use Rattle.stages.proofs.armour.reduced_armour_resistance.Statement.{statement}

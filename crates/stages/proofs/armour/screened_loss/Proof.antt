@@ -8,7 +8,7 @@ use Rattle.exact.specs.Rounding.{up}
 use Rattle.exact.specs.Trillion.{trillion}
 use Rattle.formulas.specs.Constants.{tera}
 use Rattle.formulas.specs.Armour.{screening_ratio_squared, screened_loss}
-use Rattle.formulas.specs.Laws.Ranges.{screening_ratio_squared_most, screening_most}
+use Rattle.formulas.proofs.Laws.Ranges.{screening_ratio_squared_most, screening_most}
 use Rattle.formulas.specs.Laws.Bounds.{most_bond_ratio_squared, most_armour_loss}
 use Rattle.stages.proofs.Quotients.{fits_up, quotient_up_fits}
 use Prim.Native.Nat.{ℕ, ◌+◌, ◌*◌, ◌≤◌}

@@ -6,7 +6,7 @@ use Rattle.exact.specs.Rounding.{down}
 use Rattle.exact.specs.Trillion.{trillion}
 use Rattle.formulas.specs.Constants.{tera}
 use Rattle.formulas.specs.Armour.{screening_ratio_squared}
-use Rattle.formulas.specs.Laws.LogRange.{down_bounded}
+use Rattle.formulas.proofs.Laws.LogRange.{down_bounded}
 use Rattle.formulas.specs.Laws.Bounds.{most_bond_ratio, most_bond_ratio_squared}
 use Rattle.stages.proofs.Quotients.{quotient_down_fits, square_fits}
 use Rattle.stages.proofs.armour.screening_ratio_squared.Statement.{statement}

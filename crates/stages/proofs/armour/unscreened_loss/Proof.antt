@@ -8,7 +8,7 @@ use Rattle.exact.specs.Rounding.{up}
 use Rattle.exact.specs.Trillion.{trillion}
 use Rattle.formulas.specs.CommonSheath.{axis_ratio}
 use Rattle.formulas.specs.Armour.{unscreened_loss}
-use Rattle.formulas.specs.Laws.Ranges.{reduced_armour_resistance_most, axis_ratio_most}
+use Rattle.formulas.proofs.Laws.Ranges.{reduced_armour_resistance_most, axis_ratio_most}
 use Rattle.formulas.specs.Laws.Bounds.{most_armour_loss}
 use Rattle.stages.proofs.Quotients.{quotient_up_fits}
 use Prim.Native.Nat.{◌*◌, ◌≤◌}

@@ -6,7 +6,7 @@ use Prim.Native.Nat.{◌≤◌}
 use native.Mathlib.Omega.{arith}
 use Rattle.exact.specs.Trillion.{trillion}
 use Rattle.formulas.specs.CommonSheath.{is_first, first_formula, second_formula, common_loss}
-use Rattle.formulas.specs.Laws.Ranges.{axis_ratio_most}
+use Rattle.formulas.proofs.Laws.Ranges.{axis_ratio_most}
 use Rattle.stages.proofs.common_sheath.common_loss.Statement.{statement}
 use Rattle.stages.proofs.common_sheath.common_loss.Tie as tie
 

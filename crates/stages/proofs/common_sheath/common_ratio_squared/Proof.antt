@@ -7,7 +7,7 @@ use Rattle.exact.specs.Rounding.{down}
 use Rattle.exact.specs.Trillion.{trillion}
 use Rattle.formulas.specs.Constants.{tera}
 use Rattle.formulas.specs.CommonSheath.{common_ratio, common_ratio_squared}
-use Rattle.formulas.specs.Laws.LogRange.{down_bounded}
+use Rattle.formulas.proofs.Laws.LogRange.{down_bounded}
 use Rattle.formulas.specs.Laws.Bounds.{most_common_ratio, most_common_ratio_squared}
 use Rattle.stages.proofs.Quotients.{quotient_down_fits, square_fits}
 use Rattle.stages.proofs.common_sheath.common_ratio_squared.Statement.{statement}

@@ -9,7 +9,7 @@ use Rattle.exact.specs.Rounding.{up}
 use Rattle.exact.specs.Trillion.{trillion}
 use Rattle.formulas.specs.Constants.{tera}
 use Rattle.formulas.specs.CommonSheath.{first_formula_limit, axis_ratio_squared, first_formula}
-use Rattle.formulas.specs.Laws.Ranges.{axis_ratio_squared_most, common_ratio_most, common_ratio_squared_most, common_term_most}
+use Rattle.formulas.proofs.Laws.Ranges.{axis_ratio_squared_most, common_ratio_most, common_ratio_squared_most, common_term_most}
 use Rattle.formulas.specs.Laws.Bounds.{most_common_ratio_squared, most_common_loss}
 use Rattle.stages.proofs.Quotients.{fits_up}
 use Rattle.stages.proofs.common_sheath.first_formula.Statement.{statement}

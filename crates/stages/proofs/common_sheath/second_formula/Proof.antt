@@ -7,13 +7,13 @@ use native.Mathlib.Nat.{mul-le-mul, lt_of_le_of_lt}
 use native.Mathlib.Omega.{arith}
 use lib.Dec.{lit<}
 use Rattle.exact.specs.Rounding.{up}
-use Rattle.exact.specs.Laws.Rounding.{up_up}
+use Rattle.exact.proofs.Laws.Rounding.{up_up}
 use Rattle.exact.specs.Trillion.{trillion}
 use Rattle.wide.specs.Limbs.{value}
 use Rattle.formulas.specs.Constants.{tera}
 use Rattle.formulas.specs.CommonSheath.{second_formula}
 use Rattle.formulas.specs.Laws.Bounds.{most_reactance}
-use Rattle.formulas.specs.Laws.Ranges.{second_formula_most}
+use Rattle.formulas.proofs.Laws.Ranges.{second_formula_most}
 use Rattle.stages.proofs.common_sheath.second_formula.Statement.{statement}
 use Rattle.stages.proofs.common_sheath.second_formula.Tie as tie
 

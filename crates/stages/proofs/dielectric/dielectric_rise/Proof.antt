@@ -4,7 +4,7 @@ use native.Mathlib.Omega.{arith}
 use native.Mathlib.Nat.{mul-le-mul}
 use lib.Dec.{lit<}
 use Rattle.formulas.specs.Dielectric.{dielectric_resistance, dielectric_rise}
-use Rattle.formulas.specs.Laws.Ranges.{dielectric_resistance_most}
+use Rattle.formulas.proofs.Laws.Ranges.{dielectric_resistance_most}
 use Rattle.formulas.specs.Laws.Bounds.{most_dielectric_rise}
 use Rattle.stages.proofs.Quotients.{quotient_up_fits}
 use Prim.Native.Nat.{◌+◌, ◌*◌, ◌≤◌}

@@ -7,7 +7,7 @@ use borrow.Author.Rules.{rules}
 use Rattle.exact.specs.Rounding.{up}
 use Rattle.formulas.specs.Constants.{ln2_high}
 use Rattle.formulas.specs.Logarithm.{log_high}
-use Rattle.formulas.specs.Laws.LogRange.{up_bounded}
+use Rattle.formulas.proofs.Laws.LogRange.{up_bounded}
 use Rattle.stages.proofs.Ends.{Parts, first_most, first_fits, parts}
 use Rattle.stages.proofs.logarithm.log_high.Statement.{statement}
 use Rattle.stages.proofs.logarithm.log_high.Tie as tie

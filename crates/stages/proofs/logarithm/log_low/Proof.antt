@@ -7,7 +7,7 @@ use borrow.Author.Rules.{rules}
 use Rattle.exact.specs.Rounding.{down}
 use Rattle.formulas.specs.Constants.{ln2_low}
 use Rattle.formulas.specs.Logarithm.{log_low}
-use Rattle.formulas.specs.Laws.LogRange.{down_bounded}
+use Rattle.formulas.proofs.Laws.LogRange.{down_bounded}
 use Rattle.stages.proofs.Ends.{Parts, first_most, first_fits, parts}
 use Rattle.stages.proofs.logarithm.log_low.Statement.{statement}
 use Rattle.stages.proofs.logarithm.log_low.Tie as tie

@@ -6,7 +6,7 @@ use native.Mathlib.Nat.{pow-suc}
 use native.Mathlib.Numerals.{add-one}
 use native.Mathlib.Omega.{arith}
 use Rattle.formulas.specs.Logarithm.{octaves, doubled}
-use Rattle.formulas.specs.Laws.Octaves.{Largest, largest_only, octaves_largest}
+use Rattle.formulas.proofs.Laws.Octaves.{Largest, largest_only, octaves_largest}
 use Rattle.stages.proofs.logarithm.reduce.Statement.{statement}
 use Rattle.stages.proofs.logarithm.reduce.Tie as tie
 

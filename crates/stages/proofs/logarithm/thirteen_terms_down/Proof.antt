@@ -3,7 +3,7 @@
 use Prim.Native.Nat.{◌-◌}
 use native.Mathlib.Omega.{arith}
 use Rattle.exact.specs.Rounding.{down}
-use Rattle.formulas.specs.Laws.LogRange.{down_bounded}
+use Rattle.formulas.proofs.Laws.LogRange.{down_bounded}
 use Rattle.stages.proofs.Series.{Summed, fits, product_most, next_fits, begin, more_total, more, done, ended_down, term_down}
 use Rattle.stages.proofs.logarithm.thirteen_terms_down.Statement.{statement}
 use Rattle.stages.proofs.logarithm.thirteen_terms_down.Tie as tie

@@ -4,9 +4,9 @@
 use Prim.Native.Nat.{◌-◌}
 use native.Mathlib.Omega.{arith}
 use borrow.Author.Tests.{eqb-true, ltb-true}
-use Rattle.bools.specs.Laws.Tests.{both}
+use Rattle.bools.proofs.Laws.Tests.{both}
 use Rattle.exact.specs.Rounding.{up}
-use Rattle.formulas.specs.Laws.LogRange.{up_bounded}
+use Rattle.formulas.proofs.Laws.LogRange.{up_bounded}
 use Rattle.stages.proofs.Series.{Summed, fits, product_most, next_fits, begin, more_total, more, done, ended_up, term_up}
 use Rattle.stages.proofs.logarithm.thirteen_terms_up.Statement.{statement}
 use Rattle.stages.proofs.logarithm.thirteen_terms_up.Tie as tie

@@ -8,7 +8,7 @@ use Rattle.exact.specs.Rounding.{up}
 use Rattle.exact.specs.Trillion.{trillion}
 use Rattle.formulas.specs.Constants.{tera}
 use Rattle.formulas.specs.Proximity.{proximity_factor}
-use Rattle.formulas.specs.Laws.Ranges.{proximity_g_most, proximity_h_most}
+use Rattle.formulas.proofs.Laws.Ranges.{proximity_g_most, proximity_h_most}
 use Rattle.formulas.specs.Laws.Bounds.{most_proximity_factor}
 use Rattle.stages.proofs.Quotients.{fits_up}
 use Prim.Native.Nat.{◌+◌, ◌*◌, ◌≤◌}

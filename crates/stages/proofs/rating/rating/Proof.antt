@@ -3,7 +3,7 @@ use borrow.Author.Rules.{rules}
 use mathlib.Core.Path.{◌∙◌, ap}
 use native.Mathlib.Omega.{arith}
 use Rattle.exact.specs.Root.{root}
-use Rattle.exact.specs.Laws.Root.{root_is, root_only}
+use Rattle.exact.proofs.Laws.Root.{root_is, root_only}
 use Rattle.formulas.specs.Rating.{rating}
 use Rattle.stages.proofs.Quotients.{quotient_down_fits}
 use Rattle.stages.proofs.rating.rating.Statement.{statement}

@@ -2,7 +2,7 @@
 use native.Mathlib.Omega.{arith}
 use native.Mathlib.Nat.{mul-le-mul}
 use lib.Dec.{lit<}
-use Rattle.exact.specs.Laws.Rounding.{up_least}
+use Rattle.exact.proofs.Laws.Rounding.{up_least}
 use Rattle.formulas.specs.Laws.Bounds.{most_part_rise}
 use Rattle.stages.proofs.Quotients.{quotient_up_fits}
 use Prim.Native.Nat.{◌*◌, ◌≤◌}

@@ -1,7 +1,7 @@
 -- `stages::reactance::reactance` is the definition, as code rounds up.
 use borrow.Author.Rules.{rules}
 use mathlib.Core.Path.{sym}
-use Rattle.exact.specs.Laws.Rounding.{up_code}
+use Rattle.exact.proofs.Laws.Rounding.{up_code}
 use Rattle.formulas.specs.Constants.{pi_high}
 use Rattle.formulas.specs.Reactance.{reactance}
 use Prim.Native.Nat.{◌*◌}

@@ -1,7 +1,7 @@
 -- `stages::reactance::reactance_low` is the definition, as code rounds down.
 use borrow.Author.Rules.{rules}
 use mathlib.Core.Path.{sym}
-use Rattle.exact.specs.Laws.Rounding.{down_code}
+use Rattle.exact.proofs.Laws.Rounding.{down_code}
 use Rattle.formulas.specs.Constants.{pi_low}
 use Rattle.formulas.specs.Reactance.{reactance_low}
 use Prim.Native.Nat.{◌*◌}

@@ -12,7 +12,7 @@ use mir.Syntax.{w32, w64}
 use mir.Val.{to_z, Fits, SFits}
 use mir.ValLaws.{to_z_pos, to_z-Fits}
 use Rattle.formulas.specs.Resistance.{temperature_factor}
-use Rattle.formulas.specs.Laws.Temperature.{FactorRange, temperature_factor_range}
+use Rattle.formulas.proofs.Laws.Temperature.{FactorRange, temperature_factor_range}
 use Rattle.formulas.specs.Laws.Bounds.{most_coefficient, most_temperature_factor}
 use Rattle.stages.specs.Laws.Ranges.{FactorRanges}
 use Rattle.stages.proofs.Signed.{Is, read, fits_as, read_as, mag_sum, mag_times}

@@ -6,7 +6,7 @@ use Rattle.exact.specs.Rounding.{up}
 use Rattle.exact.specs.Trillion.{trillion}
 use Rattle.formulas.specs.Constants.{tera}
 use Rattle.formulas.specs.Sheath.{bond_ratio, bond_ratio_squared}
-use Rattle.formulas.specs.Laws.LogRange.{up_bounded}
+use Rattle.formulas.proofs.Laws.LogRange.{up_bounded}
 use Rattle.formulas.specs.Laws.Bounds.{most_bond_ratio, most_bond_ratio_squared}
 use Rattle.stages.proofs.Quotients.{quotient_up_fits, square_fits}
 use Rattle.stages.proofs.sheath.bond_ratio_squared.Statement.{statement}

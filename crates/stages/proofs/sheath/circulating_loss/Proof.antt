@@ -7,7 +7,7 @@ use Rattle.exact.specs.Rounding.{up}
 use Rattle.exact.specs.Trillion.{trillion}
 use Rattle.formulas.specs.Constants.{tera}
 use Rattle.formulas.specs.Sheath.{circulating_loss}
-use Rattle.formulas.specs.Laws.Ranges.{bond_ratio_most, bond_ratio_squared_most}
+use Rattle.formulas.proofs.Laws.Ranges.{bond_ratio_most, bond_ratio_squared_most}
 use Rattle.formulas.specs.Laws.Bounds.{most_resistance, most_bond_ratio_squared}
 use Rattle.stages.proofs.Quotients.{quotient_up_fits}
 use Prim.Native.Nat.{◌+◌, ◌*◌, ◌≤◌}

@@ -7,8 +7,8 @@ use Rattle.exact.specs.Rounding.{up}
 use Rattle.exact.specs.Trillion.{trillion}
 use Rattle.formulas.specs.Constants.{tera}
 use Rattle.formulas.specs.Sheath.{eddy_ratio, eddy_ratio_squared, eddy_factor}
-use Rattle.formulas.specs.Laws.LogRange.{up_bounded}
-use Rattle.formulas.specs.Laws.Ranges.{eddy_ratio_most, eddy_ratio_squared_most}
+use Rattle.formulas.proofs.Laws.LogRange.{up_bounded}
+use Rattle.formulas.proofs.Laws.Ranges.{eddy_ratio_most, eddy_ratio_squared_most}
 use Rattle.formulas.specs.Laws.Bounds.{most_eddy_ratio, most_eddy_factor}
 use Rattle.stages.proofs.Quotients.{quotient_up_fits, square_fits}
 use Rattle.stages.proofs.sheath.eddy_factor.Statement.{statement}

@@ -5,11 +5,11 @@ use native.Mathlib.Omega.{arith}
 use native.Mathlib.Nat.{mul-le-mul, le_trans}
 use lib.Dec.{lit<, lit≤}
 use Rattle.exact.specs.Rounding.{up}
-use Rattle.exact.specs.Laws.Rounding.{up_least}
+use Rattle.exact.proofs.Laws.Rounding.{up_least}
 use Rattle.exact.specs.Trillion.{trillion}
 use Rattle.formulas.specs.Constants.{tera}
 use Rattle.formulas.specs.Sheath.{eddy_loss}
-use Rattle.formulas.specs.Laws.Ranges.{eddy_factor_most, eddy_spacing_most}
+use Rattle.formulas.proofs.Laws.Ranges.{eddy_factor_most, eddy_spacing_most}
 use Rattle.formulas.specs.Laws.Bounds.{most_eddy_spacing, most_eddy_inner, most_eddy_factor}
 use Rattle.stages.proofs.Quotients.{fits_up}
 use Prim.Native.Nat.{◌*◌, ◌≤◌}

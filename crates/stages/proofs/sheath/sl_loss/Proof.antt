@@ -3,9 +3,9 @@ use borrow.Author.Rules.{rules}
 use mathlib.Core.Path.{◌∙◌, ap, sym}
 use native.Mathlib.Omega.{arith}
 use Rattle.exact.specs.Rounding.{up}
-use Rattle.exact.specs.Laws.Rounding.{up_code}
+use Rattle.exact.proofs.Laws.Rounding.{up_code}
 use Rattle.formulas.specs.Sheath.{three_halves, sl_loss}
-use Rattle.formulas.specs.Laws.Ranges.{circulating_loss_most}
+use Rattle.formulas.proofs.Laws.Ranges.{circulating_loss_most}
 use Rattle.formulas.specs.Laws.Bounds.{most_resistance}
 use Prim.Native.Nat.{◌*◌, ◌≤◌}
 use Rattle.stages.proofs.sheath.sl_loss.Statement.{statement}

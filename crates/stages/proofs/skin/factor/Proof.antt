@@ -8,7 +8,7 @@ use Rattle.exact.specs.Rounding.{up}
 use Rattle.exact.specs.Trillion.{trillion}
 use Rattle.formulas.specs.Constants.{tera}
 use Rattle.formulas.specs.Skin.{skin_ratio_squared, factor}
-use Rattle.formulas.specs.Laws.Ranges.{skin_ratio_squared_most}
+use Rattle.formulas.proofs.Laws.Ranges.{skin_ratio_squared_most}
 use Rattle.formulas.specs.Laws.Bounds.{most_skin_ratio_squared}
 use Rattle.stages.proofs.Quotients.{fits_up, quotient_up_fits}
 use Prim.Native.Nat.{◌+◌, ◌*◌, ◌≤◌}

@@ -6,7 +6,7 @@ use Rattle.exact.specs.Rounding.{up}
 use Rattle.exact.specs.Trillion.{trillion}
 use Rattle.formulas.specs.Constants.{tera}
 use Rattle.formulas.specs.Skin.{skin_ratio}
-use Rattle.formulas.specs.Laws.Ranges.{skin_reactance_most}
+use Rattle.formulas.proofs.Laws.Ranges.{skin_reactance_most}
 use Rattle.formulas.specs.Laws.Bounds.{most_skin_reactance}
 use Rattle.stages.proofs.Quotients.{quotient_up_fits}
 use Prim.Native.Nat.{◌*◌, ◌≤◌}

@@ -3,7 +3,7 @@ use borrow.Author.Rules.{rules}
 use mathlib.Core.Path.{sym}
 use native.Mathlib.Omega.{arith}
 use native.Mathlib.Nat.{mul-le-mul}
-use Rattle.exact.specs.Laws.Rounding.{up_code}
+use Rattle.exact.proofs.Laws.Rounding.{up_code}
 use Rattle.formulas.specs.Constants.{pi_high}
 use Rattle.formulas.specs.Skin.{skin_reactance}
 use Prim.Native.Nat.{◌*◌}

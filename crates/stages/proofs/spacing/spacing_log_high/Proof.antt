@@ -5,7 +5,7 @@ use Prim.Native.Nat.{◌+◌}
 use native.Mathlib.Omega.{arith}
 use Rattle.formulas.specs.Constants.{ln2_third_high}
 use Rattle.formulas.specs.Spacing.{third_of, spacing_log_high}
-use Rattle.formulas.specs.Laws.LogRange.{log_high_most}
+use Rattle.formulas.proofs.Laws.LogRange.{log_high_most}
 use Rattle.stages.proofs.spacing.spacing_log_high.Statement.{statement}
 use Rattle.stages.proofs.spacing.spacing_log_high.Tie as tie
 

@@ -5,7 +5,7 @@ use Prim.Native.Nat.{◌+◌}
 use native.Mathlib.Omega.{arith}
 use Rattle.formulas.specs.Constants.{ln2_third_low}
 use Rattle.formulas.specs.Spacing.{third_of, spacing_log_low}
-use Rattle.formulas.specs.Laws.LogRange.{log_low_most}
+use Rattle.formulas.proofs.Laws.LogRange.{log_low_most}
 use Rattle.stages.proofs.spacing.spacing_log_low.Statement.{statement}
 use Rattle.stages.proofs.spacing.spacing_log_low.Tie as tie
 

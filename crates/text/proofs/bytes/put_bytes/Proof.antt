@@ -8,7 +8,7 @@ use native.Mathlib.Omega.{arith}
 use borrow.Author.Rules.{rules}
 use lib.ListN.{length, take}
 use lib.Seq.{take_all, take-length}
-use Rattle.splice.specs.Laws.Put.{put_as}
+use Rattle.splice.proofs.Laws.Put.{put_as}
 use Rattle.text.specs.Gather.{piece, kept}
 use Rattle.text.proofs.bytes.put_bytes.Statement.{statement}
 use Rattle.text.proofs.bytes.put_bytes.Tie as tie

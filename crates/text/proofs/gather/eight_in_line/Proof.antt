@@ -9,7 +9,7 @@ use native.Mathlib.Omega.{arith}
 use borrow.Author.Rules.{rules}
 use lib.ListN.{length, get_or}
 use Rattle.text.specs.Gather.{is_in_line}
-use Rattle.bools.specs.Laws.Tests.{both}
+use Rattle.bools.proofs.Laws.Tests.{both}
 use Rattle.text.specs.Laws.Runs.{run_more}
 use Rattle.text.specs.Words.{run_end}
 use Rattle.text.proofs.gather.eight_in_line.Statement.{statement}

@@ -4,7 +4,7 @@ use mathlib.Core.Path.{sym, subst, ◌∙◌}
 use Prim.Native.Nat.{ℕ, ◌^◌, ◌<◌}
 use native.Mathlib.Nat.{lt_of_le_of_lt}
 use native.Mathlib.Omega.{arith}
-use Rattle.exact.specs.Laws.Rounding.{down_le_up}
+use Rattle.exact.proofs.Laws.Rounding.{down_le_up}
 use Rattle.wide.specs.Laws.Split.{split_up}
 use Rattle.wide.proofs.trillion.mul_div_up_trillion.Statement.{statement}
 use Rattle.wide.proofs.trillion.mul_div_up_trillion.Tie as tie

@@ -1,0 +1,110 @@
+-- Demand 2 for books of RBK1: what was built from cases reads back and is accepted, a book that fits is not refused, and an accepted book
+-- builds again to the same bytes, from the cases that `read` answers, and can be appended to. And what a refusal leaves. Each is the law
+-- of any lawful layout. Assumes nothing.
+use Rattle.std.specs.Prelude.{true, List, [], ◌∷◌, ◌++◌, ◌≡◌, ℕ, ◌≤◌, ◌<◌, length, get_or, take, drop}
+use Rattle.std.proofs.Common.{sym, ◌∙◌, suc-ne-zero, arith}
+use Rattle.rating.specs.Rate.{rate_of}
+use Rattle.book_laws.specs.Bytes.{below}
+use Rattle.book_laws.specs.Format.{fields_of}
+use Rattle.book_laws.specs.Start.{Written}
+use Rattle.book_laws.specs.Build.{all_cases, append_all}
+use Rattle.book_laws.specs.Book.{
+  layout_of,
+  new_layout,
+  describe,
+  start_of,
+  append_of,
+  read_of,
+  cases_of,
+  accept_of,
+  Accepted,
+  DisagreesFirst,
+  Appended,
+  build,
+  built,
+  Fits,
+  Kept,
+}
+use Rattle.book_laws.proofs.Laws.Lawful.{rbk1_lawful}
+use Rattle.book_laws.proofs.Laws.Accept.{accepted_in, accepts_in}
+use Rattle.book_laws.proofs.Laws.Refused.{Unwritten, Unread, Unaccepted, start_in_refused, append_in_refused, read_in_refused, accept_in_refused}
+use Rattle.book_laws.proofs.Laws.Build.{build_in_fits}
+use Rattle.book_laws.proofs.Laws.ReadBack.{kept_in}
+use Rattle.book_laws.proofs.Laws.Cases.{cases_as_read_in, cases_read}
+use Rattle.book_laws.proofs.Laws.Rebuild.{rebuilt_in, rebuilt_in_whole}
+use Rattle.book_laws.proofs.Laws.Appended.{appended_in, all_appended_in}
+
+module _ (b : List ℕ) (note : ℕ) (xs : List (List ℕ)) (cases : all_cases new_layout xs ≡ true) where
+  -- a book that fits is refused by neither 24 nor 25
+  pub build_fits : Fits b note (length xs) → build b note xs ≡ built b note xs
+  build_fits = build_in_fits rbk1_lawful b note xs cases
+
+  pub kept : (build b note xs).number ≡ 0 → Kept b note xs (build b note xs)
+  kept = kept_in rbk1_lawful b note xs cases
+
+-- Accept accepts the accepted books.
+
+module _ (b : List ℕ) (used : ℕ) where
+  pub accepted : (accept_of b used).number ≡ 0 → Accepted b used
+  accepted = accepted_in (layout_of b used) b used
+
+  pub accepts :
+      let d = describe b used in
+      Accepted b used → accept_of b used ≡ record { number = 0; count = d.count; note = d.first; named = 0 }
+  accepts = accepts_in (layout_of b used) b used
+
+-- the cases from which an accepted book is built again are those that `read` answers, each with its answer and its rating
+pub cases_as_read :
+    (b : List ℕ) (used : ℕ) → Accepted b used → (i : ℕ) → i < (describe b used).count →
+    let d = describe b used in
+    let x = get_or (cases_of b used) i [] in
+    read_of b used i ≡ record { number = 0; fields = x ++ ((rate_of x).number ∷ (rate_of x).rating ∷ []) }
+unfolding fields_of
+cases_as_read b used fine i is_record =
+    rw (cases_read (layout_of b used) b used fine.trailer_right (describe b used).count (omega arith))
+    (cases_as_read_in (layout_of b used) b used i is_record fine)
+
+module _ (b : List ℕ) (used : ℕ) (bytes : below 256 b ≡ true) (fine : Accepted b used) where
+  -- in a buffer that is long enough and has the note at its front; what stood behind stays
+  pub rebuilt :
+      let d = describe b used in
+      (c : List ℕ) → used ≤ length c → take d.first c ≡ take d.first b →
+      build c d.first (cases_of b used) ≡ record { number = 0; used = used; bytes = take used b ++ drop used c }
+  rebuilt = rebuilt_in rbk1_lawful b used bytes fine
+
+  -- in a buffer as long as the book
+  pub rebuilt_whole :
+      let d = describe b used in
+      (c : List ℕ) → length c ≡ used → take d.first c ≡ take d.first b →
+      build c d.first (cases_of b used) ≡ record { number = 0; used = used; bytes = take used b }
+  rebuilt_whole = rebuilt_in_whole rbk1_lawful b used bytes fine
+
+  -- one case more, and any number of them, whichever way the book was made
+  pub appended :
+      (x : List ℕ) → all_cases new_layout (x ∷ []) ≡ true → (append_of b used x).number ≡ 0 → Appended b used x (append_of b used x)
+  appended = appended_in rbk1_lawful b used bytes fine
+
+  pub all_appended :
+      let d = describe b used in
+      let book : Written = record { number = 0; used = used; bytes = b } in
+      (xs : List (List ℕ)) → all_cases new_layout xs ≡ true → (append_all new_layout book xs).number ≡ 0 →
+      Kept b d.first (cases_of b used ++ xs) (append_all new_layout book xs)
+  all_appended = all_appended_in rbk1_lawful b used bytes fine
+
+-- What a refusal leaves: the number, zeros, and every byte as it was. A record of RBK1 has 28 fields.
+
+module _ (b : List ℕ) where
+  pub start_refused : (note : ℕ) → ((start_of b note).number ≡ 0 → ⊥) → start_of b note ≡ record { number = 24; used = 0; bytes = b }
+  start_refused = start_in_refused new_layout b
+
+  pub append_refused : (used : ℕ) (x : List ℕ) → ((append_of b used x).number ≡ 0 → ⊥) → Unwritten b (append_of b used x)
+  append_refused = append_in_refused new_layout b
+
+  pub read_refused : (used i : ℕ) → ((read_of b used i).number ≡ 0 → ⊥) → Unread 28 (read_of b used i)
+  read_refused used = read_in_refused (layout_of b used) b used
+
+  pub accept_refused : (used : ℕ) → ((accept_of b used).number ≡ 0 → ⊥) → Unaccepted (layout_of b used) b used (accept_of b used)
+  accept_refused used = accept_in_refused (layout_of b used) b used
+
+  pub first_named : (used : ℕ) → (accept_of b used).number ≡ 23 → DisagreesFirst b used (accept_of b used).named
+  first_named used is-23 = (accept_refused used (λ none. suc-ne-zero 22 (sym is-23 ∙ none))).names is-23

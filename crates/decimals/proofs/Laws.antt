@@ -1,0 +1,4 @@
+-- What follows from the definition of a number in decimal. Assumes nothing.
+pub mod Decimal
+pub mod Leading
+pub mod Parts

@@ -1,0 +1,119 @@
+-- Demand 3 on a case of arrangement 5, a three-core SL type of 124 microhm/m at 19 kV which rates 457.106 A, with fractions chosen for pi,
+-- ln 2 and the two logarithms; and on cases of arrangements 3 and 6, which have one logarithm alone. So the premises of the theorems are
+-- met. Assumes nothing.
+use Rattle.std.specs.Prelude.{◌≡◌, refl, false, List, ℕ, ◌+◌, ◌*◌, ◌^◌}
+use Rattle.std.proofs.Common.{sym, ap, subst, ◌∙◌, true≢false}
+use Rattle.exact.specs.Rounding.{up, down}
+use Rattle.exact.specs.Fraction.{Fraction, ◌over◌, whole, ◌≤F◌, ◌<F◌}
+use Rattle.exact.proofs.Laws.Fraction.{closed≤}
+use Rattle.formulas.specs.Dielectric.{permitted_rise}
+use Rattle.formulas.specs.Constants.{tera, pi_low, pi_high, ln2_low, ln2_high}
+use Rattle.formulas.specs.Logarithm.{doublings, octaves, doubled, series, first_power, thirteen_terms, log_low, log_high, IsLog}
+use Rattle.fields.specs.Fields as Field
+use Rattle.rating.specs.Values.{rise_of}
+use Rattle.rating.specs.Chosen.{Chosen}
+use Rattle.rating.specs.OnePoint.{one_point}
+use Rattle.rating.specs.CommonSheath.{common_sheath}
+use Rattle.rating.specs.Arrangements.{arrangement_of, own}
+use Rattle.rating.specs.Allowed.{Allowed}
+use Rattle.rating.specs.Rate.{rated, rate_of}
+use Rattle.rating.specs.Exact.{exact_rise, permitted_of}
+use Rattle.rating.proofs.Laws.Logarithms.{Promised, promised}
+use Rattle.rating.proofs.Laws.Passed.{all_passed, rated_stages}
+use Rattle.rating.proofs.Laws.Margin.{safe, close, nearer}
+use Rattle.rating.proofs.Laws.Answers.{trefoil_one_point, cable, three_cores, answered}
+
+abbrev pub chosen : Chosen
+chosen =
+    record {
+      pi = 314159265358 over 10 ^ 11;
+      ln2 = 6931471805599 over 10 ^ 13;
+      log_spacing = 741937344729 over 10 ^ 12;
+      log_insulation = 721318057526 over 10 ^ 12;
+    }
+
+pub chosen_allowed : Allowed (own cable) cable chosen
+unfolding pi_low pi_high log_low log_high thirteen_terms series first_power doubled octaves doublings ln2_low ln2_high tera up down
+chosen_allowed =
+    record {
+      pi = record { at_least = closed≤ tt; at_most = closed≤ tt };
+      ln2 = record { at_least = closed≤ tt; at_most = closed≤ tt };
+      log_spacing = λ reactive. record { at_least = closed≤ tt; at_most = closed≤ tt };
+      log_insulation = record { at_least = closed≤ tt; at_most = closed≤ tt };
+    }
+
+pub answer : ((rate_of cable).number ≡ 0) × ((rate_of cable).rating ≡ 457106)
+answer = let is = answered.sl_type_5 in (ap (λ a. a.number) is, ap (λ a. a.rating) is)
+
+-- it passed every refusal, its answer is that of the stages, and stage 5's promises hold of both its logarithms
+
+stages : rate_of cable ≡ rated cable
+stages = rated_stages cable answer.0
+
+logarithms : Promised cable
+logarithms = promised cable (all_passed cable answer.0).fields
+
+permitted : permitted_of cable ≡ 70000000000
+unfolding permitted_of permitted_rise rise_of
+permitted = refl
+
+under : exact_rise cable chosen (whole 457106) ≤F whole 70000000000
+under = rw (← answer.1, ← permitted) (safe cable chosen chosen_allowed answer.0)
+
+over : whole 70000000000 <F exact_rise cable chosen (whole (457106 + 2))
+over =
+    subst (λ i. whole 70000000000 <F exact_rise cable chosen (whole (i + 2))) answer.1
+    (rw (← permitted) (close cable chosen chosen_allowed answer.0))
+
+over_nearer : whole 70000000000 <F exact_rise cable chosen (457106 * 10000001 + 10000000 over 10000000)
+over_nearer =
+    subst (λ i. whole 70000000000 <F exact_rise cable chosen (i * 10000001 + 10000000 over 10000000)) answer.1
+    (rw (← permitted) (nearer cable chosen chosen_allowed answer.0))
+
+-- In arrangements 3 and 6 nothing is asked of what stands for the logarithm of 2s/d. In the case of 6, 2s is smaller than d.
+
+abbrev without_spacing : Fraction → Chosen
+without_spacing log =
+    record { pi = 314159265358 over 10 ^ 11; ln2 = 6931471805599 over 10 ^ 13; log_spacing = 0 over 0; log_insulation = log }
+
+without_spacing_allowed :
+    (x : List ℕ) (log : Fraction) → (own x).reactive ≡ false → IsLog (Field.insulation_diameter x) (Field.screen_diameter x) log →
+    Allowed (own x) x (without_spacing log)
+unfolding pi_low pi_high ln2_low ln2_high tera
+without_spacing_allowed x log not-reactive is-log =
+    record {
+      pi = record { at_least = closed≤ tt; at_most = closed≤ tt };
+      ln2 = record { at_least = closed≤ tt; at_most = closed≤ tt };
+      log_spacing = λ reactive. absurd (true≢false (sym reactive ∙ not-reactive));
+      log_insulation = is-log;
+    }
+
+abbrev chosen_3 : Chosen
+chosen_3 = without_spacing (606135803570 over 10 ^ 12)
+
+allowed_3 : Allowed (own trefoil_one_point) trefoil_one_point chosen_3
+unfolding arrangement_of one_point log_low log_high thirteen_terms series first_power doubled octaves doublings ln2_low ln2_high tera up down
+allowed_3 = without_spacing_allowed trefoil_one_point _ refl (record { at_least = closed≤ tt; at_most = closed≤ tt })
+
+under_3 : exact_rise trefoil_one_point chosen_3 (whole 1445739) ≤F whole (permitted_of trefoil_one_point)
+under_3 =
+    rw (← ap (λ a. a.rating) answered.one_point_3)
+    (safe trefoil_one_point chosen_3 allowed_3 (ap (λ a. a.number) answered.one_point_3))
+
+abbrev pub chosen_6 : Chosen
+chosen_6 = without_spacing (443644018850 over 10 ^ 12)
+
+pub allowed_6 : Allowed (own three_cores) three_cores chosen_6
+unfolding arrangement_of common_sheath log_low log_high thirteen_terms series first_power doubled octaves doublings ln2_low ln2_high tera up down
+allowed_6 = without_spacing_allowed three_cores _ refl (record { at_least = closed≤ tt; at_most = closed≤ tt })
+
+pub answer_6 : ((rate_of three_cores).number ≡ 0) × ((rate_of three_cores).rating ≡ 469955)
+answer_6 = let is = answered.common_sheath_6 in (ap (λ a. a.number) is, ap (λ a. a.rating) is)
+
+under_6 : exact_rise three_cores chosen_6 (whole 469955) ≤F whole (permitted_of three_cores)
+under_6 = rw (← answer_6.1) (safe three_cores chosen_6 allowed_6 answer_6.0)
+
+over_6 : whole (permitted_of three_cores) <F exact_rise three_cores chosen_6 (whole (469955 + 2))
+over_6 =
+    subst (λ i. whole (permitted_of three_cores) <F exact_rise three_cores chosen_6 (whole (i + 2))) answer_6.1
+    (close three_cores chosen_6 allowed_6 answer_6.0)

@@ -1,0 +1,53 @@
+-- Stage 10 of a case from its arrangement's numbers alone: the range of E, and how close E and dd lie to their exact values.
+-- Assumes nothing.
+use Rattle.std.specs.Prelude.{List, ℕ, ◌≤◌}
+use Rattle.exact.specs.Fraction.{whole}
+use Rattle.exact.specs.Error.{Within}
+use Rattle.formulas.specs.Laws.Bounds.{least_unit_rise, most_unit_rise}
+use Rattle.formulas.specs.Laws.Ranges.{In}
+use Rattle.formulas.proofs.Laws.Ranges.{unit_rise_least, unit_rise_most}
+use Rattle.formulas.proofs.Laws.CloseUnitRise.{unit_rise_close}
+use Rattle.fields.specs.Fields as Field
+use Rattle.rating.specs.Chosen.{Chosen}
+use Rattle.rating.specs.Arrangements.{own}
+use Rattle.rating.specs.Allowed.{Allowed}
+use Rattle.rating.specs.Stage10.{numbers_of, E}
+use Rattle.rating.specs.Exact.{numbers_of*, E*}
+use Rattle.rating.specs.Laws.Fit.{Fit}
+use Rattle.rating.proofs.Laws.Arrangement.{InRange, Close}
+use Rattle.rating.proofs.Laws.Arrangements.{lawful}
+
+module _ {x : List ℕ} (fit : Fit (own x) x) where
+  pub spaced : Field.conductor_diameter x ≤ Field.spacing x
+  spaced = (lawful (Field.arrangement x)).spaced fit
+
+  pub numbers_in_range : InRange (numbers_of x)
+  numbers_in_range = (lawful (Field.arrangement x)).in_range fit
+
+  pub E_range : In least_unit_rise most_unit_rise (E x)
+  unfolding E
+  E_range =
+      let ν = numbers_in_range in
+      let fine = fit.sound in
+      record {
+        least = unit_rise_least _ _ _ _ _ _ ν.R.least fine.t1.least;
+        most =
+            unit_rise_most ν.n.most ν.R.most ν.S ν.W fine.t1.most fine.t2.most fine.t3.most fine.t4.most;
+      }
+
+  module _ {c : Chosen} (allowed : Allowed (own x) x c) where
+    numbers_close : Close (numbers_of* x c) (numbers_of x)
+    numbers_close = (lawful (Field.arrangement x)).close allowed fit
+
+    pub dd_close : Within 2500 (whole 2) (numbers_of* x c).dd (whole (numbers_of x).dd)
+    dd_close = numbers_close.dd
+
+    pub E_close : Within 160000 (whole 0) (E* x c) (whole (E x))
+    unfolding E* E
+    E_close =
+        let near = numbers_close in
+        let ν = numbers_in_range in
+        unit_rise_close near.R near.S near.W ν.R.least (numbers_of x).n (Field.t1 x) (Field.t2 x) (Field.t3 x) (Field.t4 x)
+        ν.n.least
+        fit.sound.t1.least
+        fit.sound.t4.least

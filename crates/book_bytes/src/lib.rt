@@ -1,5 +1,6 @@
 // The code of a book's format: its layout, fields, the mark, records and the trailer, each as
 // `book_laws` describes it. `book` has the operations.
+#![tactic(auto)]
 mod field;
 pub mod layout;
 mod mark;

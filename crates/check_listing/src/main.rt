@@ -2,6 +2,7 @@
 // the refusals 20, 21, 22 and 23: a used length past the buffer, and the small book with one byte
 // changed; and of books of four such cases in which up to three records disagree, at the first, the
 // last and adjacent places.
+#![tactic(auto)]
 ghost use Rattle.std.specs.Prelude.{◌≡◌, ◌≤◌, ◌<◌, length};
 
 use book::append::append;

@@ -4,6 +4,7 @@
 // lines that begin with `#` are passed over where a case may stand. A line that says what a case
 // must get is compared byte by byte, so lines are read by their bytes here, and not by what they
 // say.
+#![tactic(auto)]
 ghost use Rattle.std.specs.Prelude.{◌≤◌, length};
 ghost use Rattle.rate_text.specs.Answers.{answer_room};
 

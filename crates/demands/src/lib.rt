@@ -1,1 +1,2 @@
 // The three demands as theorems only: see specs/Demands.antt.
+#![tactic(auto)]

@@ -1,5 +1,6 @@
 // The fields of a case by name (docs/RATING.md, 'The fields of a case'), their count and the type of a case. Every crate takes them from
 // here.
+#![tactic(auto)]
 
 // How many inputs a case has.
 pub const WIDTH: usize = 26;

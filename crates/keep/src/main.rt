@@ -2,6 +2,7 @@
 // standard output, with the program's arguments, joined by blanks, as its note. Where a line cannot
 // be read, or the book would pass 65536 bytes, standard error says so and no book is written. What
 // is done to the book's bytes is `keep_book`; here are the buffers, the reading and the writing.
+#![tactic(auto)]
 ghost use Rattle.std.specs.Prelude.{◌≤◌, length};
 
 use book::start::start;

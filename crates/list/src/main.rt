@@ -1,5 +1,6 @@
 // Reads a book of at most 65536 bytes from standard input and prints its listing. What is printed is
 // `list_text::list_book`; here are the buffers, the reading and the writing.
+#![tactic(auto)]
 ghost use Rattle.std.specs.Prelude.{◌≤◌};
 
 use libc::STDIN_FILENO;

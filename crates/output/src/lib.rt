@@ -1,5 +1,6 @@
 // Writing the front of a buffer to standard output. What a program prints is put into a buffer first,
 // of which a contract can speak, and goes out from there.
+#![tactic(auto)]
 use libc::STDOUT_FILENO;
 
 // Writes the first `used` bytes of `out`, or all of it where it has fewer. Answers whether all of

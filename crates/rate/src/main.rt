@@ -1,6 +1,7 @@
 // Reads cases from standard input, one to a line, and prints for each its answer, rating and sheet.
 // What is printed for a line is `rate_text::print_said`; here are the buffers, the loop over the
 // lines and the writing.
+#![tactic(auto)]
 ghost use Rattle.std.specs.Prelude.{◌+◌, ◌≤◌, length};
 ghost use Rattle.rate_text.specs.Answers.{answer_room};
 

@@ -1,6 +1,7 @@
 // What the program `rate` prints for a line of its input, and what a program says of a line. Each
 // function writes into `out` from `at` on, and answers the place after what it wrote. A bound on
 // that place shows that the next one has room.
+#![tactic(auto)]
 ghost use Rattle.std.specs.Prelude.{◌+◌, ◌≤◌, length};
 ghost use Rattle.rate_text.specs.Answers.{answer_room, sheet_room, text_of, about_line, unreadable_text, printed_for, printed};
 ghost use Rattle.rating.specs.Rate.{answer_of};

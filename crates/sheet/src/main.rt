@@ -1,6 +1,7 @@
 // Reads cases from standard input as the program rate does, and prints for each a work sheet for a
 // person. The text of a sheet is `sheet_text::work_sheet`; here are the buffers, the loop over the
 // lines and the writing.
+#![tactic(auto)]
 ghost use Rattle.std.specs.Prelude.{◌≤◌, length};
 ghost use Rattle.rate_text.specs.Answers.{answer_room};
 

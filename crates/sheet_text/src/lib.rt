@@ -1,6 +1,7 @@
 // A case and its rating as a work sheet for a person: every field and every sheet number with its
 // symbol, value, unit and meaning, then the rating; or the refusal and its rule. ASCII only, so
 // that any terminal shows it.
+#![tactic(auto)]
 mod codes;
 mod field_rows;
 mod fixed;

@@ -1,5 +1,6 @@
 // The constant tables of docs/RATING.md: ks and kp by conductor code, and the metals' coefficients. That a table is the definition's is
 // proved once, over the whole table; a code's row has it from there.
+#![tactic(auto)]
 ghost use Rattle.std.specs.Prelude.{true, ◌≡◌};
 ghost use Rattle.formulas.specs.Laws.Bounds.{most_conductor_code, most_metal_code};
 ghost use Rattle.formulas.specs.Laws.Ranges.{In};
@@ -9,6 +10,7 @@ ghost use Rattle.tables.specs.Laws.Agree.{FactorsOf, factors_agree, coefficient_
 
 // A row of the conductor table, in thousandths. No factor is above 1000, so that sixteen bits hold it.
 #[derive(Drop)]
+#[derive(Clone, Copy)]
 struct Factors {
     ks: u16,
     kp: u16,

@@ -1,6 +1,6 @@
 -- A number written digit by digit from the front by a fixed count of steps, where each digit takes the place of a zero in front of
 -- the number: after the last step the number stands there as `decimal` has it. Assumes nothing.
-use Rattle.std.specs.Prelude.{List, ◌∷◌, ◌≡◌, ℕ, ◌+◌, ◌%◌, min}
+use Rattle.std.specs.Prelude.{List, [], ◌∷◌, ◌≡◌, ℕ, ◌+◌, ◌%◌, min}
 use Rattle.splice.specs.Splice.{splice}
 
 -- a step's store: the last digit of y stands in l at `at`, which makes l to m, and r is the place after it, or its own where y is 0

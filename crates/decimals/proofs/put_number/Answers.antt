@@ -1,0 +1,16 @@
+-- `decimals::put_number` meets its contract: the blank and the digits, at most 20, are joined.
+-- Assumes nothing.
+use Rattle.std.proofs.Common.{List, [], ap, append-nil, arith, sym, ℕ, ◌++◌, ◌∷◌, ◌≡◌}
+use Rattle.splice.proofs.Laws.Put.{put_as, put_then}
+use Rattle.decimals.specs.Decimal.{decimal, spaced}
+use Rattle.decimals.proofs.Laws.Decimal.{count_64}
+use Rattle.decimals.proofs.put_number.Goals as goal
+
+one : (x : ℕ) → (32 ∷ []) ++ decimal x ≡ spaced (x ∷ [])
+unfolding spaced
+one x = ap (λ (t : List ℕ). 32 ∷ t) (sym (append-nil (decimal x)))
+
+pub returns : goal.returns
+returns c =     let x = c.args.x in
+    let both = put_then _ _ (32 ∷ []) (decimal x) (omega arith) c.put_byte-digits.ensures c.put_decimal.ensures in
+    record { put = put_as _ _ (one x) both; within = omega (arith, count_64 x c.ranges.x.fits) }

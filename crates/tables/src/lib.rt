@@ -9,7 +9,6 @@ ghost use Rattle.formulas.specs.Tables as Tables;
 ghost use Rattle.tables.specs.Laws.Agree.{FactorsOf, factors_agree, coefficient_agrees};
 
 // A row of the conductor table, in thousandths. No factor is above 1000, so that sixteen bits hold it.
-#[derive(Drop)]
 #[derive(Clone, Copy)]
 struct Factors {
     ks: u16,

@@ -15,7 +15,7 @@ use lib.Seq.{drop-cons}
 use Rattle.text.specs.declared.number.Reading.{Reading}
 use Rattle.text.specs.declared.number.Reading.TheVariants.{Number, Nothing}
 use Rattle.text.specs.Number.{is_digit, every, value_from, value, read_digits}
-use Rattle.text.specs.Laws.Number.{is_digit, is_below_digits, is_above_digits}
+use Rattle.text.specs.Laws.Number.{is_digit_within, is_below_digits, is_above_digits}
 use Rattle.text.specs.Words.{is_empty}
 
 -- what the digits s say that follow digits of the value x
@@ -41,7 +41,7 @@ step limit x w i false h e = rw (drop-cons w i 0 h, e)
 
 pub onward_digit : (limit x : ℕ) (w : List ℕ) (i : ℕ) → i < length w → 48 ≤ get_or w i 0 → get_or w i 0 ≤ 57
     → onward limit x (drop i w) ≡ onward limit (x * 10 + (get_or w i 0 - 48)) (drop (i + 1) w)
-onward_digit limit x w i h low high = rw (add-one i) (step limit x w i true h (is_digit _ low high))
+onward_digit limit x w i h low high = rw (add-one i) (step limit x w i true h (is_digit_within _ low high))
 
 pub onward_low : (limit x : ℕ) (w : List ℕ) (i : ℕ) → i < length w → get_or w i 0 < 48 → onward limit x (drop i w) ≡ Nothing
 onward_low limit x w i h low = step limit x w i false h (is_below_digits _ low)

@@ -10,7 +10,7 @@ use Rattle.text.specs.declared.number.Reading.TheVariants.{Number}
 use Rattle.text.specs.Gather.{piece}
 use Rattle.text.specs.Leading.{digits_end, DigitsIn, LeadingDigits, is_number}
 use Rattle.text.specs.Number.{is_digit, every, value_from, value, read_digits, read_number}
-use Rattle.text.specs.Laws.Number.{is_digit, every_append, every_at, every_weaker, differ, value_snoc, not_empty}
+use Rattle.text.specs.Laws.Number.{is_digit_within, every_append, every_at, every_weaker, differ, value_snoc, not_empty}
 use Rattle.text.specs.Laws.Pieces.{piece_none, piece_more, piece_length, piece_then}
 use Rattle.text.specs.Laws.Words.{digit_ink, run_past}
 use Rattle.text.specs.Words.{is_ink, run, run_end}
@@ -39,7 +39,7 @@ digits_more s from i x d k low high =
     record {
       forward = omega arith;
       within = omega arith;
-      digits = ap (every is_digit) more ∙ every_append is_digit (piece from i s) (b ∷ []) d.digits (rw (is_digit b low high));
+      digits = ap (every is_digit) more ∙ every_append is_digit (piece from i s) (b ∷ []) d.digits (rw (is_digit_within b low high));
       amount = ap value more ∙ value_snoc 0 (piece from i s) b ∙ ap (λ (v : ℕ). v * 10 + (b - 48)) d.amount;
     }
 

@@ -11,9 +11,9 @@ use Rattle.decimals.proofs.Laws.Decimal.{decimal_small, decimal_large, decimal_i
 use Rattle.text.specs.Number.{is_digit, every, value_from, value, read_digits, read_number}
 use Rattle.text.specs.Words.{is_empty}
 
-pub is_digit : (b : ℕ) → 48 ≤ b → b ≤ 57 → is_digit b ≡ true
+pub is_digit_within : (b : ℕ) → 48 ≤ b → b ≤ 57 → is_digit b ≡ true
 unfolding is_digit
-is_digit b low high = simp (le-leb 48 b low, le-leb b 57 high)
+is_digit_within b low high = simp (le-leb 48 b low, le-leb b 57 high)
 
 pub is_below_digits : (b : ℕ) → b < 48 → is_digit b ≡ false
 unfolding is_digit
@@ -45,7 +45,7 @@ differ p b k h f e = false≢true (sym f ∙ ap p (sym e) ∙ h)
 
 one_digit : (d : ℕ) → d < 10 → every is_digit ((d + 48) ∷ []) ≡ true
 unfolding every
-one_digit d h = rw (is_digit (d + 48) (omega arith) (omega arith))
+one_digit d h = rw (is_digit_within (d + 48) (omega arith) (omega arith))
 
 pub decimal_digits : (x : ℕ) → every is_digit (decimal x) ≡ true
 decimal_digits =

@@ -20,9 +20,9 @@ pub run_stop : (p : ℕ → Bool) (s : List ℕ) (i : ℕ) → i < length s → 
     → run_end p s i ≡ i
 run_stop p s i h e = let f : run p (drop i s) ≡ 0 = first p s i false h e in omega arith
 
-pub run_end : (p : ℕ → Bool) (s : List ℕ) (i : ℕ) → length s ≤ i → run_end p s i ≡ i
+pub run_end_past : (p : ℕ → Bool) (s : List ℕ) (i : ℕ) → length s ≤ i → run_end p s i ≡ i
 unfolding run
-run_end p s i h = ap (λ (l : List ℕ). i + run p l) (drop_of_length-le s h) ∙ add-zero i
+run_end_past p s i h = ap (λ (l : List ℕ). i + run p l) (drop_of_length-le s h) ∙ add-zero i
 
 one_more : (t : Bool) {m n : ℕ} → m ≤ n → cond t (suc m) zero ≤ suc n
 one_more true h = suc-le-suc h

@@ -1,0 +1,43 @@
+-- `stages::sheath::eddy_factor` is the definition: m, its square, and the quotient of that.
+use Rattle.std.proofs.Common.{ap, arith, ◌*◌, ◌+◌, ◌∙◌, ◌≡◌, ◌≤◌}
+use Rattle.exact.specs.Rounding.{up}
+use Rattle.exact.specs.Trillion.{trillion}
+use Rattle.formulas.specs.Constants.{tera}
+use Rattle.formulas.specs.Sheath.{eddy_ratio, eddy_ratio_squared, eddy_factor}
+use Rattle.formulas.proofs.Laws.LogRange.{up_bounded}
+use Rattle.formulas.proofs.Laws.Ranges.{eddy_ratio_most, eddy_ratio_squared_most}
+use Rattle.formulas.specs.Laws.Bounds.{most_eddy_ratio, most_eddy_factor}
+use Rattle.stages.proofs.Quotients.{quotient_up_fits, square_fits}
+use Rattle.stages.proofs.sheath.eddy_factor.Goals as goal
+use Rattle.stages.proofs.sheath.eddy_factor.Goals.{After-mul_div_up_trillion-m2}
+
+m2_is :
+    (c : After-mul_div_up_trillion-m2) →
+    c.mul_div_up_trillion-m2.result ≡ eddy_ratio_squared (eddy_ratio c.args.b c.args.rs)
+unfolding eddy_ratio_squared eddy_ratio tera
+m2_is c = c.mul_div_up_trillion-m2.ensures ∙ ap (λ m. up (m * m) trillion) c.mul_div_up-m.ensures
+
+m2_most : (c : After-mul_div_up_trillion-m2) → c.mul_div_up_trillion-m2.result ≤ most_eddy_factor
+m2_most c =
+    let pre = c.requires in
+    omega (arith, m2_is c, eddy_ratio_squared_most (eddy_ratio_most c.args.b pre.rs>0 pre.b_most))
+
+pub mul_div_up-m-requires : goal.mul_div_up-m-requires
+unfolding eddy_factor tera
+mul_div_up-m-requires c = quotient_up_fits most_eddy_ratio (omega arith) (omega arith) tt
+
+pub mul_div_up_trillion-m2-requires : goal.mul_div_up_trillion-m2-requires
+unfolding eddy_factor tera
+mul_div_up_trillion-m2-requires c = square_fits up_bounded most_eddy_ratio most_eddy_factor c.mul_div_up-m.ensures (omega arith) (omega arith) tt tt
+
+pub overflow_add-m2 : goal.overflow_add-m2
+unfolding eddy_factor tera
+overflow_add-m2 c = omega (arith, m2_most c)
+
+pub mul_div_up-requires : goal.mul_div_up-requires
+unfolding eddy_factor tera
+mul_div_up-requires c = quotient_up_fits most_eddy_factor (omega arith) (omega (arith, m2_most c)) tt
+
+pub returns : goal.returns
+unfolding eddy_factor tera
+returns c = c.mul_div_up.ensures ∙ ap (λ m2. up (m2 * trillion) (trillion + m2)) (m2_is (goal.at.returns c).After-mul_div_up_trillion-m2)

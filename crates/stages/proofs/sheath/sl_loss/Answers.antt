@@ -1,0 +1,24 @@
+-- `stages::sheath::sl_loss` is the definition, as code rounds up.
+use Rattle.std.proofs.Common.{ap, arith, sym, ◌*◌, ◌∙◌, ◌≤◌}
+use Rattle.exact.specs.Rounding.{up}
+use Rattle.exact.proofs.Laws.Rounding.{up_code}
+use Rattle.formulas.specs.Sheath.{three_halves, sl_loss}
+use Rattle.formulas.proofs.Laws.Ranges.{circulating_loss_most}
+use Rattle.formulas.specs.Laws.Bounds.{most_resistance}
+use Rattle.stages.proofs.sheath.sl_loss.Goals as goal
+use Rattle.stages.proofs.sheath.sl_loss.Goals.{After-circulating_loss}
+
+s_most : (c : After-circulating_loss) → c.circulating_loss.result ≤ most_resistance
+s_most c =
+    omega
+    (arith, circulating_loss_most c.args.x c.args.rs, c.circulating_loss.ensures, c.requires.rs_most)
+
+pub returns : goal.returns
+unfolding sl_loss three_halves
+returns c = sym (up_code (3 * c.circulating_loss.result) 2) ∙ ap (λ s. up (3 * s) 2) c.circulating_loss.ensures
+
+pub overflow_mul-result : goal.overflow_mul-result
+overflow_mul-result c = omega (arith, s_most c)
+
+pub overflow_add-result : goal.overflow_add-result
+overflow_add-result c = omega (arith, s_most c)

@@ -15,7 +15,7 @@ use fields::{
 };
 
 // The arrangements, each a module with its rules and its losses. OnePoint has j, 1 in arrangement 3 and 2 in 4.
-#[derive(Drop)]
+#[derive(Clone, Copy)]
 pub enum Kind {
     BothEnds,
     OnePoint(u64),
@@ -24,7 +24,7 @@ pub enum Kind {
 }
 
 // Whether a case passes what it asks beyond every arrangement, for refusals 3 to 7; and whether refusal 9 is tried.
-#[derive(Drop)]
+#[derive(Clone, Copy)]
 pub struct Rules {
     pub limits: bool,
     pub unused: bool,
@@ -35,7 +35,7 @@ pub struct Rules {
 }
 
 // n, RA, X, S and W.
-#[derive(Drop)]
+#[derive(Clone, Copy)]
 pub struct Losses {
     pub n: u64,
     pub ra: u64,

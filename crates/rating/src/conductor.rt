@@ -8,7 +8,7 @@ use stages::proximity::{ac_resistance, proximity_factor, spacing_ratio};
 use stages::skin::factor;
 
 // ys, yp and R.
-#[derive(Drop)]
+#[derive(Clone, Copy)]
 pub struct Conduction {
     pub ys: u64,
     pub yp: u64,

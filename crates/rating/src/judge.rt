@@ -14,7 +14,7 @@ use tables::{kp, ks};
 const SKIN_LIMIT: u64 = 7_840_000_000_000;
 
 // What every arrangement shares: R', B, Rs, ys, yp, R and Wd.
-#[derive(Drop)]
+#[derive(Clone, Copy)]
 pub struct Shared {
     pub rc: u64,
     pub b: u64,
@@ -26,7 +26,7 @@ pub struct Shared {
 }
 
 // The number of the first refusal that is given, or the values of a case that passed.
-#[derive(Drop)]
+#[derive(Clone, Copy)]
 pub enum Judgement {
     Refused(u32),
     Passed(Shared),

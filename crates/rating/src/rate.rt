@@ -13,7 +13,7 @@ use fields::{ARRANGEMENT, Case};
 pub const SHEET: usize = 13;
 
 // The answer, 0 or the refusal's number; the rating in mA; and the sheet: R', Rs, RA, B, ys, yp, R, X, S, W, Wd, dd, E.
-#[derive(Drop)]
+#[derive(Clone, Copy)]
 pub struct Answer {
     pub answer: u32,
     pub rating: u32,

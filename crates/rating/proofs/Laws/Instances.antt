@@ -60,8 +60,8 @@ permitted = refl
 under : exact_rise cable chosen (whole 457106) ≤F whole 70000000000
 under = rw (← answer.1, ← permitted) (safe cable chosen chosen_allowed answer.0)
 
-over : whole 70000000000 <F exact_rise cable chosen (whole (457106 + 2))
-over =
+over_5 : whole 70000000000 <F exact_rise cable chosen (whole (457106 + 2))
+over_5 =
     subst (λ i. whole 70000000000 <F exact_rise cable chosen (whole (i + 2))) answer.1
     (rw (← permitted) (close cable chosen chosen_allowed answer.0))
 

@@ -9,5 +9,5 @@ pub overflow_cast-result : goal.overflow_cast-result
 overflow_cast-result c =     omega (arith, (number_in _ c.leading_digits-digits.ensures c.is_number.ensures c.if-is_number.true).fits)
 
 pub returns-then-is_number : goal.returns-then-is_number
-returns-then-is_number c = λ c found. without_sign c.requires
-    (number_in _ c.leading_digits-digits.ensures c.is_number.ensures c.if-is_number.true) c
+returns-then-is_number c = λ found. without_sign c.requires
+    (number_in _ c.leading_digits-digits.ensures c.is_number.ensures c.if-is_number.true)

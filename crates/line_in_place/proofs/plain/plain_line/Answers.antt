@@ -2,13 +2,13 @@
 -- most. The measure is the count of numbers that are left before the last.
 -- Assumes nothing.
 use Rattle.std.proofs.Common.{Bool, List, [], add-one, ap, arith, cond, eqb, false, get_or, le_refl, length, length-set, lit≤, refl, set, subst, suc, sym, take, take-suc-set, take_all, true, ℕ, ◌++◌, ◌+◌, ◌<◌, ◌∙◌, ◌∷◌, ◌≡◌, ◌≤◌}
-use Rattle.std.proofs.lemmas.Bool.{not-false}
 use Rattle.bools.proofs.Laws.Tests.{other_outcome}
 use Rattle.line_in_place.specs.NumberAt.{NumberAt}
 use Rattle.line_in_place.specs.Plain.{PlainLine, longest_plain}
 use Rattle.line_in_place.specs.Laws.Row.{Row, row_none, row_more, row_ends}
 use Rattle.text.specs.Words.{is_blank}
 use Rattle.line_in_place.proofs.plain.plain_line.Invariants.{Reading-on}
+use Rattle.std.proofs.lemmas.Bool.{not-false}
 use Rattle.line_in_place.proofs.plain.plain_line.Goals as goal
 
 at_most_one : (t : Bool) (n : ℕ) → cond t (n + 1) n ≤ n + 1
@@ -53,7 +53,7 @@ module _ {n : ℕ} {s : List ℕ} {from : ℕ} {l : List ℕ} {at i : ℕ} (on :
 
 pub loop-i-init : goal.loop-i-init
 loop-i-init c =     record {
-      space = c.has_room.ensures (not-false _ c.if-not-has_room.false);
+      space = c.has_room.ensures c.if-not-has_room.false;
       count = omega arith;
       near = omega arith;
       room = refl;
@@ -70,7 +70,7 @@ overflow_add-at c =     omega (arith, (c.number_at-number.ensures (not-false _ c
 
 pub loop-i-preserved : goal.loop-i-preserved
 loop-i-preserved c =     let number = c.number_at-number.ensures (not-false _ c.if-not-number.false) in
-    let blank = sym c.is_blank.ensures ∙ not-false _ c.if-not-is_blank.false in
+    let blank = sym c.is_blank.ensures ∙ c.if-not-is_blank.false in
     next c.loop-i.invariant number c.loop-i-test.true blank
 
 pub number_at-last-requires : goal.number_at-last-requires

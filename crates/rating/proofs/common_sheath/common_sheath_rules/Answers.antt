@@ -1,0 +1,17 @@
+-- `common_sheath_rules` is the definition: each test is its test.
+use Rattle.std.proofs.Common.{refl}
+use Rattle.rating.specs.CommonSheath.{common_sheath}
+use Rattle.rating.proofs.common_sheath.common_sheath_rules.Goals as goal
+
+pub returns : goal.returns
+unfolding common_sheath
+returns c =
+    record {
+      known = refl;
+      limits = c.axis_limits.ensures;
+      unused = c.no_armour.ensures;
+      geometry = simp (c.number.ensures.same, c.number-2.ensures.same);
+      heat = refl;
+      metal = refl;
+      eddies = refl;
+    }

@@ -1,0 +1,47 @@
+-- `dielectric_loss_of` is the definition: the logarithm of Di/ds is in its range, since refusal 5 keeps the insulation apart.
+use Rattle.std.proofs.Common.{arith, ◌∙◌, ◌≡◌}
+use Rattle.formulas.specs.Logarithm.{log_low}
+use Rattle.formulas.specs.Dielectric.{dielectric_loss}
+use Rattle.fields.specs.Fields as Field
+use Rattle.rating.specs.Values.{Wd}
+use Rattle.rating.proofs.Laws.Ranges.{B_range, insulation_log_range}
+use Rattle.rating.proofs.dielectric.dielectric_loss_of.Goals as goal
+use Rattle.rating.proofs.dielectric.dielectric_loss_of.Goals.{After-log_low}
+
+log_is :
+    (c : After-log_low) →
+    let x = c.args.x in
+    c.log_low.result ≡ log_low (Field.insulation_diameter x) (Field.screen_diameter x)
+log_is c =
+    let di = c.number-4.ensures.same in
+    let ds = c.number-5.ensures.same in
+    c.log_low.ensures ∙ (λ i. log_low (di i) (ds i))
+
+pub log_low-requires : goal.log_low-requires
+log_low-requires c =
+    let fine = c.requires.sound in
+    omega
+    (arith, c.number-5.ensures.same, c.number-4.ensures.same, fine.insulation_diameter, fine.screen_diameter, fine.insulated)
+
+pub dielectric_loss-requires : goal.dielectric_loss-requires
+dielectric_loss-requires c =
+    let pre = c.requires in
+    let fine = pre.sound in
+    record {
+      e_most = omega (arith, c.number.ensures.same, fine.permittivity);
+      u0_most = omega (arith, c.number-2.ensures.same, fine.voltage);
+      t_most = omega (arith, c.number-3.ensures.same, fine.loss_factor);
+      b_most = omega (arith, pre.b_is, B_range fine);
+      l_least = omega (arith, log_is c, insulation_log_range fine);
+      l_most = omega (arith, log_is c, insulation_log_range fine);
+    }
+
+pub returns : goal.returns
+unfolding Wd
+returns c =
+    let e = c.number.ensures.same in
+    let u0 = c.number-2.ensures.same in
+    let t = c.number-3.ensures.same in
+    let b = c.requires.b_is in
+    let log = log_is (goal.at.returns c).After-log_low in
+    c.dielectric_loss.ensures ∙ (λ i. dielectric_loss (e i) (u0 i) (t i) (b i) (log i))

@@ -1,20 +1,14 @@
 -- `keep_book::add_word` meets its contract: the blank and the word are kept one after the other, each as far as there is room, which is
 -- both together as far as there is room. Assumes nothing.
-use mathlib.Core.List.{List, [], ◌∷◌}
-use mathlib.Core.Path.{◌≡◌, refl, ap, ◌∙◌}
-use Prim.Native.Nat.{ℕ, zero, suc, ◌-◌}
-use native.Mathlib.Nat.{sub-zero}
-use native.Mathlib.Omega.{arith}
-use borrow.Author.Rules.{rules}
-use lib.ListN.{length, take}
-use lib.Seq.{take_all, take-length}
+use Rattle.std.proofs.Common.{List, [], ap, arith, length, refl, suc, take, take_all, zero, ℕ, ◌-◌, ◌∙◌, ◌∷◌, ◌≡◌}
+use Rattle.std.proofs.Math.Nat.{sub-zero}
+use Rattle.std.proofs.Math.Seq.{take-length}
 use Rattle.splice.proofs.Laws.Splice.{splice_length, splice_nothing}
 use Rattle.splice.specs.Put.{Put}
 use Rattle.splice.proofs.Laws.Put.{put_as, put_then}
 use Rattle.text.specs.Gather.{piece, kept}
 use Rattle.keep_book.specs.Keeping.{next_word}
-use Rattle.keep_book.proofs.add_word.Statement.{statement}
-use Rattle.keep_book.proofs.add_word.Tie as tie
+use Rattle.keep_book.proofs.add_word.Goals as goal
 
 whole_kept : (room : ℕ) (w : List ℕ) → kept room 0 (length w) w ≡ take room w
 unfolding kept piece
@@ -46,29 +40,14 @@ module _ (b w : List ℕ) (at : ℕ) {m n : List ℕ} {p r : ℕ} where
       go zero e h = no_room e h g
       go (suc k) e h = some_room k e h g
 
-first_word : tie.Need-returns
+pub returns-then-first : goal.returns-then-first
 unfolding next_word
-first_word c =
-    let first = c.before.before.before.before.if1.true in
-    simp first (put_as _ _ (whole_kept _ _) c.before.before.keep.ensures)
+returns-then-first c =
+    let first = c.if-first.true in
+    simp first (put_as _ _ (whole_kept _ _) c.keep.ensures)
 
-later-word : tie.Need-returns-2
+pub returns : goal.returns
 unfolding next_word
-later-word c =
-    let kept_word = c.before.before in
-    let kept_blank = kept_word.before.before.before.before in
-    let later = kept_blank.before.before.before.if1.false in
-    simp later (both_kept _ _ _ kept_blank.keep2.ensures (put_as _ _ (whole_kept _ _) kept_word.keep3.ensures))
-
-pub add-word-spec : {M : Type 1} → statement M
-add-word-spec =
-    tie.close
-    (tie.spec
-    (λ c κs. search rules)
-    (λ c. search rules)
-    first_word
-    (λ c. search rules)
-    (λ c κs. search rules)
-    (λ c κs. search rules)
-    (λ c. search rules)
-    later-word)
+returns c =
+    let later = c.if-first.false in
+    simp later (both_kept _ _ _ c.keep-from.ensures (put_as _ _ (whole_kept _ _) c.keep-2.ensures))

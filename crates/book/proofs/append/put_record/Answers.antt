@@ -1,9 +1,5 @@
 -- `book::append::put_record` meets its contract: the record, then the trailer. Assumes nothing.
-use mathlib.Core.List.{List, [], ◌∷◌, ◌++◌}
-use mathlib.Core.Path.{◌≡◌, ap, ap₂, ◌∙◌}
-use Prim.Native.Nat.{ℕ, ◌+◌, ◌≤◌}
-use native.Mathlib.Omega.{arith}
-use lib.ListN.{length}
+use Rattle.std.proofs.Common.{List, [], ap, ap₂, arith, length, ℕ, ◌++◌, ◌+◌, ◌∙◌, ◌∷◌, ◌≡◌, ◌≤◌}
 use Rattle.splice.specs.Splice.{splice}
 use Rattle.splice.proofs.Laws.Splice.{splice_after}
 use Rattle.rating.specs.Rate.{Answer, answer_of, rate_of}
@@ -13,9 +9,7 @@ use Rattle.book_laws.specs.Bytes.{words_bytes}
 use Rattle.book_laws.specs.Layout.{rbk1, record_length}
 use Rattle.book_laws.specs.Format.{fields_of, record_bytes, trailer_bytes}
 use Rattle.book_laws.proofs.Laws.Bytes.{words_bytes_length}
-use borrow.Author.Rules.{rules}
-use Rattle.book.proofs.append.put_record.Statement.{statement}
-use Rattle.book.proofs.append.put_record.Tie as tie
+use Rattle.book.proofs.append.put_record.Goals as goal
 
 fields_are :
     (x : List ℕ) {r : Code.Answer} {f : List ℕ} → answer_of r ≡ rate_of x → f ≡ x ++ (r.answer ∷ r.rating ∷ []) →
@@ -39,25 +33,8 @@ record_and_trailer l at x count {r} {f} {m} {n} h made rated put-fields put-trai
     ∙ splice_after l at (words_bytes f) trailer h
     ∙ ap (λ (u : List ℕ). splice l at (u ++ trailer)) (fields_are x rated made.fields_are)
 
-returns : tie.Need-returns
+pub returns : goal.returns
 returns c =
-    let trailed = c.before.before in
-    let fielded = trailed.before.before.before.before in
-    let made = fielded.before in
-    let rated = made.before.before in
-    let start = rated.before.before in
-    record_and_trailer _ _ start.args.x _ (omega (arith, start.requires.room)) made.fields-of.ensures rated.rate.ensures
-    fielded.put-fields.ensures
-    trailed.put-trailer.ensures
-
-pub put-record-spec : {M : Type 1} → statement M
-put-record-spec =
-    tie.close
-    (tie.spec
-    (λ c κs. search rules)
-    (λ c κs. search rules)
-    (λ c κs. search rules)
-    (λ c. search rules)
-    (λ c κs. search rules)
-    (λ c. search rules)
-    returns)
+    record_and_trailer _ _ c.args.x _ (omega (arith, c.requires.room)) c.fields_of.ensures c.rate-a.ensures
+    c.put_fields.ensures
+    c.put_trailer.ensures

@@ -1,14 +1,7 @@
 -- `book::append::append` meets its contract: the trailer's refusals, 25, 24, and else the record and the new trailer are written.
 -- Assumes nothing.
-use mathlib.Core.Bool.{Bool, true, false, cond}
-use mathlib.Core.List.{List, ◌++◌}
-use mathlib.Core.Path.{◌≡◌, refl, sym, ap, ◌∙◌}
-use Prim.Native.Nat.{ℕ, ◌+◌, ◌-◌, ◌≤◌, ◌<◌}
-use native.Mathlib.Nat.{suc-ne-zero}
-use native.Mathlib.Omega.{arith}
-use lib.Dec.{leb, ltb}
-use lib.ListN.{length}
-use borrow.Author.Tests.{lt-ltb, le-ltb, lt-leb, ltb-true, ltb-false, leb-false}
+use Rattle.std.proofs.Common.{Bool, List, ap, arith, cond, false, le-ltb, leb, leb-false, length, lt-ltb, ltb, ltb-false, ltb-true, refl, suc-ne-zero, sym, true, ℕ, ◌++◌, ◌+◌, ◌-◌, ◌<◌, ◌∙◌, ◌≡◌, ◌≤◌}
+use Rattle.std.proofs.lemmas.Bool.{lt-leb}
 use Rattle.splice.specs.Splice.{splice}
 use Rattle.book_laws.specs.Layout.{rbk1, record_length, trailer_length}
 use Rattle.book_laws.specs.Format.{record_bytes, trailer_bytes}
@@ -19,9 +12,8 @@ use Rattle.book_laws.specs.Append.{append_after, append_in}
 use Rattle.book_bytes.specs.declared.trailer.Description as Code
 use Rattle.book_bytes.specs.Answers.{description_of}
 use Rattle.book.proofs.Described.{of_book}
-use borrow.Author.Rules.{rules}
-use Rattle.book.proofs.append.append.Statement.{statement}
-use Rattle.book.proofs.append.append.Tie as tie
+use Rattle.book.proofs.append.append.Goals as goal
+use Rattle.book.proofs.append.append.Goals.{After-struct_known-2-1}
 
 -- what `own_refusal` answers
 abbrev own_of : ℕ → ℕ → ℕ
@@ -90,78 +82,48 @@ module _ (b : List ℕ) (used : ℕ) (x : List ℕ) {d : Code.Description} (is :
   unfolding append_after
   appended none few fits put = on none ∙ rw put (simp (lt-leb _ _ few, le-ltb _ _ fits))
 
-returns : tie.Need-returns
-returns c = c.unwritten.ensures _ ∙ sym (by_trailer _ _ _ c.before.before.before.describe-book.ensures c.before.if1.true)
+pub returns-then-d-ne0 : goal.returns-then-d-ne0
+returns-then-d-ne0 c = c.unwritten.ensures _ ∙ sym (by_trailer _ _ _ c.describe_book-d.ensures c.if-d-ne0.true)
 
-sub-own-refusal : tie.Need-overflow-sub-own-refusal
-sub-own-refusal c =
-    omega (arith, (of_book _ _ c.before.before.describe-book.ensures c.if1.false).used_most)
+pub overflow_sub-buffer : goal.overflow_sub-buffer
+overflow_sub-buffer c =
+    omega (arith, (of_book _ _ c.describe_book-d.ensures c.if-d-ne0.false).used_most)
 
-returns-2 : tie.Need-returns-2
-returns-2 c =
-    let own = c.before.before in
-    let told = own.before.before.before.describe-book.ensures in
-    let none = own.before.if1.false in
-    c.unwritten2.ensures _
-    ∙ sym (by_own _ _ _ told none (of_book _ _ told none).used_most own.own-refusal.ensures c.before.if2.true)
+pub returns-then-own-ne0 : goal.returns-then-own-ne0
+returns-then-own-ne0 c =
+    let told = c.describe_book-d.ensures in
+    let none = c.if-d-ne0.false in
+    c.unwritten-then-own-ne0.ensures _
+    ∙ sym (by_own _ _ _ told none (of_book _ _ told none).used_most c.own_refusal-own.ensures c.if-own-ne0.true)
 
-sub-put-record : tie.Need-overflow-sub-put-record
-sub-put-record c =
-    let tested = c.before.before.before in
-    omega (arith, (of_book _ _ tested.before.before.describe-book.ensures tested.if1.false).places)
+pub overflow_sub-used : goal.overflow_sub-used
+overflow_sub-used c =
+    omega (arith, (of_book _ _ c.describe_book-d.ensures c.if-d-ne0.false).places)
 
 -- a record more fits, where append's own refusals are not given
 one_more :
-    (c : tie.After-struct-known2) →
-    let own = c.before.before.before in
-    let told = own.before.before.before in
-    let start = told.before.before.before in
-    OneMore told.describe-book.result.count (length start.args.buffer.now - start.args.used)
-one_more c = let own = c.before.before.before in own_none _ _ (sym own.own-refusal.ensures ∙ c.before.before.if2.false)
+    (c : After-struct_known-2-1) →
+    OneMore c.describe_book-d.result.count (length c.args.buffer.now - c.args.used)
+one_more c = own_none _ _ (sym c.own_refusal-own.ensures ∙ c.if-own-ne0.false)
 
-cast-put-record : tie.Need-overflow-cast-put-record
-cast-put-record c = omega (arith, (one_more c).few)
+pub overflow_cast-d : goal.overflow_cast-d
+overflow_cast-d c = omega (arith, (one_more c).few)
 
-add-put-record : tie.Need-overflow-add-put-record
-add-put-record c = omega (arith, (one_more c).few)
+pub overflow_add-d : goal.overflow_add-d
+overflow_add-d c = omega (arith, (one_more c).few)
 
-put-record-requires : tie.Need-put-record-requires
-put-record-requires c κs =
-    let tested = c.before.before.before.before in
-    let book = of_book _ _ tested.before.before.describe-book.ensures tested.if1.false in
+pub put_record-requires : goal.put_record-requires
+put_record-requires c =
+    let book = of_book _ _ c.describe_book-d.ensures c.if-d-ne0.false in
     record { room = omega (arith, book.used_most, book.places, (one_more c).room); count_most = omega (arith, (one_more c).few) }
 
-add-t9 : tie.Need-overflow-add-t9
-add-t9 c = omega (arith, (one_more c.before.before.before).room)
+pub overflow_add-result : goal.overflow_add-result
+overflow_add-result c = omega (arith, (one_more (goal.at.overflow_add-result c).After-struct_known-2-1).room)
 
-returns-3 : tie.Need-returns-3
-returns-3 c =
-    let put = c.before.before in
-    let known = put.before in
-    let tested = known.before.before.before.before in
-    let told = tested.before.before.describe-book.ensures in
-    let none = tested.if1.false in
-    sym (appended _ _ _ told none (one_more known).few
-    (omega (arith, (of_book _ _ told none).used_most, (one_more known).room))
-    put.put_record.ensures)
-
-pub append-spec : {M : Type 1} → statement M
-append-spec =
-    tie.close
-    (tie.spec
-    (λ c κs. search rules)
-    (λ c κs. search rules)
-    (λ c. search rules)
-    returns
-    sub-own-refusal
-    (λ c κs. search rules)
-    (λ c κs. search rules)
-    (λ c. search rules)
-    returns-2
-    sub-put-record
-    cast-put-record
-    add-put-record
-    put-record-requires
-    add-t9
-    (λ c. search rules)
-    returns-3)
+pub returns : goal.returns
+returns c =
+    let told = c.describe_book-d.ensures in
+    let none = c.if-d-ne0.false in
+    sym (appended _ _ _ told none (one_more (goal.at.returns c).After-struct_known-2-1).few
+    (omega (arith, (of_book _ _ told none).used_most, (one_more (goal.at.returns c).After-struct_known-2-1).room))
+    c.put_record.ensures)

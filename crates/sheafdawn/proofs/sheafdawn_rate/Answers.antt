@@ -1,19 +1,12 @@
 -- `sheafdawn::sheafdawn_rate` meets its contract: the rating and the sheet fill a slice of 14. Assumes nothing.
-use mathlib.Core.List.{List, [], ◌∷◌, ◌++◌, append-nil}
-use mathlib.Core.Path.{◌≡◌, sym, ap, ◌∙◌}
-use Prim.Native.Nat.{ℕ, suc, ◌+◌}
-use native.Mathlib.Omega.{arith}
-use lib.ListN.{length, set, drop}
-use lib.Seq.{drop-length}
-use borrow.Author.Tests.{eq-eqb, ne_eqb}
+use Rattle.std.proofs.Common.{List, [], ap, append-nil, arith, drop, eq-eqb, length, ne_eqb, set, suc, sym, ℕ, ◌++◌, ◌+◌, ◌∙◌, ◌∷◌, ◌≡◌}
+use Rattle.std.proofs.Math.Seq.{drop-length}
 use Rattle.fields.specs.Fields.{width}
 use Rattle.splice.specs.Splice.{splice}
 use Rattle.rating.specs.Rate.{answer_of, rate_of}
 use Rattle.rating.specs.declared.rate.Answer as Code
 use Rattle.sheafdawn.specs.Calls.{call, called, rate_call, wrong_length}
-use borrow.Author.Rules.{rules}
-use Rattle.sheafdawn.proofs.sheafdawn_rate.Statement.{statement}
-use Rattle.sheafdawn.proofs.sheafdawn_rate.Tie as tie
+use Rattle.sheafdawn.proofs.sheafdawn_rate.Goals as goal
 
 no_case : (x out : List ℕ) → (length x ≡ width → ⊥) → rate_call x out ≡ call wrong_length out
 unfolding rate_call
@@ -45,41 +38,22 @@ unfolding rate_call called
 called_right x out is_a_case is_14 rated wrote =
     rw (wrote, ← rated) (sym (simp (eq-eqb _ _ is_a_case, eq-eqb _ _ is_14)))
 
-returns : tie.Need-returns
-returns c = sym (no_case _ _ c.if1.true)
+pub returns-then-case-ne-WIDTH : goal.returns-then-case-ne-WIDTH
+returns-then-case-ne-WIDTH c = sym (no_case _ _ c.if-case-ne-WIDTH.true)
 
-returns-2 : tie.Need-returns-2
-returns-2 c = sym (no_places _ _ c.before.if1.false c.if2.true)
+pub returns-then-out-ne14 : goal.returns-then-out-ne14
+returns-then-out-ne14 c = sym (no_places _ _ c.if-case-ne-WIDTH.false c.if-out-ne14.true)
 
-same_length : tie.Need-same-length
-same_length c =
-    let put = c.before.before in
-    let sheet = put.put-sheet.ensures in
-    let rated = put.before.before.before.before in
-    let is_14 = rated.before.before.if2.false in
-    let out = rated.before.before.before.before.before.before.args.out.now in
+pub shape_of-out : goal.shape_of-out
+shape_of-out c =
+    let sheet = c.put_sheet.ensures in
+    let is_14 = c.if-out-ne14.false in
+    let out = c.args.out.now in
     as_long out _ _ is_14 sheet.sheet_length sheet.list_is
 
-returns-3 : tie.Need-returns-3
-returns-3 c =
-    let put = c.before.before in
-    let sheet = put.put-sheet.ensures in
-    let rated = put.before.before.before.before in
-    let tested = rated.before.before in
-    let out = tested.before.before.before.before.args.out.now in
-    called_right _ out tested.before.if1.false tested.if2.false (rated.rate.ensures ∙ ap rate_of rated.before.case-of.ensures)
-    (sheet.list_is ∙ filled out _ _ tested.if2.false sheet.sheet_length)
-
-pub sheafdawn-rate-spec : {M : Type 1} → statement M
-sheafdawn-rate-spec =
-    tie.close
-    (tie.spec
-    returns
-    returns-2
-    (λ c κs. search rules)
-    (λ c κs. search rules)
-    (λ c. search rules)
-    (λ c. search rules)
-    (λ c κs. search rules)
-    same_length
-    returns-3)
+pub returns : goal.returns
+returns c =
+    let sheet = c.put_sheet.ensures in
+    let out = c.args.out.now in
+    called_right _ out c.if-case-ne-WIDTH.false c.if-out-ne14.false (c.rate-a.ensures ∙ ap rate_of c.case_of.ensures)
+    (sheet.list_is ∙ filled out _ _ c.if-out-ne14.false sheet.sheet_length)

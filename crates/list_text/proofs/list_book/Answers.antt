@@ -1,10 +1,5 @@
 -- `list_text::list_book` meets its contract. The count of a book within 65536 bytes leaves room for its lines. Assumes nothing.
-use mathlib.Core.List.{List}
-use mathlib.Core.Path.{◌≡◌, sym, ap, subst, ◌∙◌}
-use Prim.Native.Nat.{ℕ, ◌≤◌}
-use native.Mathlib.Nat.{zero-add}
-use native.Mathlib.Omega.{arith}
-use lib.ListN.{length}
+use Rattle.std.proofs.Common.{List, ap, arith, length, subst, sym, zero-add, ℕ, ◌∙◌, ◌≡◌, ◌≤◌}
 use Rattle.book.specs.declared.accept.Acceptance.{Acceptance}
 use Rattle.book.specs.Answers.{acceptance_of}
 use Rattle.book_laws.specs.Book.{accept_of}
@@ -15,9 +10,7 @@ use Rattle.splice.specs.Put.{Put}
 use Rattle.splice.proofs.Laws.Put.{put_as}
 use Rattle.splice.proofs.Laws.Splice.{splice_length}
 use Rattle.list_text.specs.Listing.{listing_for, listing_of}
-use borrow.Author.Rules.{rules}
-use Rattle.list_text.proofs.list_book.Statement.{statement}
-use Rattle.list_text.proofs.list_book.Tie as tie
+use Rattle.list_text.proofs.list_book.Goals as goal
 
 room : (b : List ℕ) (used : ℕ) {a : Acceptance} → acceptance_of a ≡ accept_of b used → Counted rbk1 b (acceptance_of a)
 room b used is = subst (Counted rbk1 b) (sym is) (count_within rbk1 b used)
@@ -34,21 +27,17 @@ unfolding listing_of
 listed b used l is put =
     let whole = put_as l 0 (ap (listing_for rbk1 b) is) put in (whole.place_is ∙ zero-add _, whole.list_is)
 
-put-listing-requires : tie.Need-put-listing-requires
-put-listing-requires c κs =
-    let accepted = c.before.before in
-    let counted = room _ _ accepted.accept.ensures in
+pub put_listing-requires : goal.put_listing-requires
+put_listing-requires c =
+    let counted = room _ _ c.accept-a.ensures in
     record { room = omega (arith, counted.within); inside = counted.within; count_most = counted.most }
 
-returns : tie.Need-returns
+pub returns : goal.returns
 returns c =
-    let accepted = c.before.before.before in
-    let is = accepted.accept.ensures in
-    let listing = c.put-listing.ensures in
-    let short : c.put-listing.result ≤ 65536 = omega (arith, listing.within, (room _ _ is).within) in (
-      listed _ _ _ is listing.put,
-      (short, omega (arith, as_long _ _ listing.put (omega (arith, short)))),
-    )
-
-pub list-book-spec : {M : Type 1} → statement M
-list-book-spec = tie.close (tie.spec (λ c κs. search rules) put-listing-requires returns)
+    let is = c.accept-a.ensures in
+    let listing = c.put_listing.ensures in
+    let short : c.put_listing.result ≤ 65536 = omega (arith, listing.within, (room _ _ is).within) in
+    record {
+      value = listed _ _ _ is listing.put;
+      upper_bound = (short, omega (arith, as_long _ _ listing.put (omega (arith, short))));
+    }

@@ -3,3 +3,5 @@
 pub mod Bounds
 pub mod Ranges
 pub mod TableRule
+pub mod Current
+pub mod CloseRise

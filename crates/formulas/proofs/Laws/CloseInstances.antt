@@ -48,7 +48,7 @@ use Rattle.formulas.specs.Dielectric.{dielectric_loss, dielectric_resistance, di
 use Rattle.formulas.specs.Rating.{unit_rise, unit_rise*, rise*}
 use Rattle.formulas.specs.Laws.Ranges.{In}
 use Rattle.formulas.proofs.Laws.Ranges.{reactance_range}
-use Rattle.formulas.proofs.Laws.Current.{IsRating}
+use Rattle.formulas.specs.Laws.Current.{IsRating}
 use Rattle.formulas.proofs.Laws.CloseProximity.{resistance_close}
 use Rattle.formulas.proofs.Laws.CloseSpacing.{sheath_reactance_close, sheath_reactance_least, spacing_log_high_least}
 use Rattle.formulas.proofs.Laws.CloseSheath.{circulating_close, sl_close}
@@ -58,7 +58,8 @@ use Rattle.formulas.proofs.Laws.CloseSpacingLow.{sheath_reactance_low_close, she
 use Rattle.formulas.proofs.Laws.CloseArmour.{armour_close}
 use Rattle.formulas.proofs.Laws.CloseDielectric.{loss_close, dielectric_close}
 use Rattle.formulas.proofs.Laws.CloseUnitRise.{unit_rise_close}
-use Rattle.formulas.proofs.Laws.CloseRise.{Stage10, rise_safe, rise_above}
+use Rattle.formulas.specs.Laws.CloseRise.{Stage10}
+use Rattle.formulas.proofs.Laws.CloseRise.{rise_safe, rise_above}
 use Rattle.formulas.specs.Laws.Bounds.{least_conductor_resistance, least_sheath_resistance, most_resistance, least_sheath_reactance}
 
 -- What stands for pi, ln 2, and the logarithms of 2s/d = 84/40 and Di/ds = 36/17.5.

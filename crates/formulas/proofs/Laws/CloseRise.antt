@@ -9,17 +9,7 @@ use Rattle.exact.proofs.Laws.Fraction.{≤F_refl, ≤F_trans, +F_mono, *F_mono}
 use Rattle.exact.specs.Error.{parts, Within}
 use Rattle.exact.specs.Trillion.{trillion}
 use Rattle.formulas.specs.Rating.{rise*}
-use Rattle.formulas.proofs.Laws.Current.{IsRating}
-
--- E and dd with their exact values, N and the permitted rise P, and the rating i that refusals 10 and 11 let pass
-pub record Stage10 (e* dd* : Fraction) (e dd n p i : ℕ) : Type 0 where
-  pub e_close : Within 160000 (whole 0) e* (whole e)
-  pub dd_close : Within 2500 (whole 2) dd* (whole dd)
-  pub left : n + dd ≡ p
-  pub shares : 10 * dd ≤ 9 * p
-  pub warm : 5000000000 ≤ p
-  pub rating : IsRating n e i
-  pub most : i ≤ 5000000
+use Rattle.formulas.specs.Laws.CloseRise.{Stage10}
 
 module _ {e* dd* : Fraction} {e dd n p i : ℕ} (r : Stage10 e* dd* e dd n p i) where
   pub rise_safe : rise* (whole i) e* dd* ≤F whole p

@@ -5,11 +5,7 @@ use Rattle.exact.proofs.Laws.Rounding.{down_below, down_close}
 use Rattle.exact.specs.Root.{IsRoot}
 use Rattle.exact.proofs.Laws.Root.{root_is}
 use Rattle.formulas.specs.Rating.{rating}
-
--- i is the largest current with i² E ≤ 10^13 N
-pub record IsRating (n e i : ℕ) : Type 0 where
-  pub carried : i * i * e ≤ 10 ^ 13 * n
-  pub no_more : 10 ^ 13 * n < (i + 1) * (i + 1) * e
+use Rattle.formulas.specs.Laws.Current.{IsRating}
 
 of_quotient : {n e q i : ℕ} → IsRoot q i → 10 ^ 13 * n < q * e + e → q * e ≤ 10 ^ 13 * n → IsRating n e i
 of_quotient {e = e} p above below =

@@ -8,6 +8,7 @@ use Rattle.exact.specs.Fraction.{◌over◌, whole, ◌≤F◌, ◌<F◌}
 use Rattle.formulas.specs.Refusals.{skin_refused, eddy_refused, dielectric_refused, current_refused}
 use Rattle.formulas.specs.Dielectric.{permitted_rise, current_rise}
 use Rattle.formulas.proofs.Laws.Current.{rating_largest}
+use Rattle.formulas.specs.Laws.CloseRise.{Stage10}
 use Rattle.formulas.proofs.Laws.CloseRise as Law
 use Rattle.rating.specs.Values.{rise_of}
 use Rattle.rating.specs.Chosen.{Chosen}
@@ -42,7 +43,7 @@ module _ {x : List ℕ} {c : Chosen} (allowed : Allowed (own x) x c) (p : Passed
   unfolding dielectric_refused permitted_of permitted_rise
   share = omega (arith, ltb-false (9 * 10 ^ 7 * rise_of x) (10 * (numbers_of x).dd) p.dielectric)
 
-  rated_at : Law.Stage10 (E* x c) (numbers_of* x c).dd (E x) (numbers_of x).dd (N x) (permitted_of x) (current_of x)
+  rated_at : Stage10 (E* x c) (numbers_of* x c).dd (E x) (numbers_of x).dd (N x) (permitted_of x) (current_of x)
   unfolding current_refused current_of N current_rise permitted_of permitted_rise rise_of
   rated_at =
       record {

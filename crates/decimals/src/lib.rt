@@ -1,6 +1,7 @@
 // Decimals, and single bytes, written into a slice at a place. Each function answers the place
 // where the next byte goes.
 #![tactic(auto)]
+
 ghost use Rattle.std.specs.Prelude.{[], ◌∷◌, ◌≡◌, ◌+◌, ◌<◌, ◌≤◌, length};
 ghost use Rattle.decimals.specs.Decimal.{PutPadded, decimal, spaced};
 ghost use Rattle.decimals.specs.Laws.Leading.{PutLeading};

@@ -1,7 +1,8 @@
 -- The three demands, each as one theorem. Who believes the definitions that docs/CLAIMS.md lists needs to read nothing else: every premise
 -- stands on its own statement, and each proof is a law of `rating` or of `book_laws`, cited below. A case is a list of numbers; a book is
 -- the first `used` bytes of a buffer b, a note before its records. In code `rate`, `start`, `append`, `read` and `accept` return what
--- `rate_of`, `start_of`, `append_of`, `read_of` and `accept_of` say, for every argument: their contracts have no premise, and the prover shows
+-- `rate_of`, `start_of`, `append_of`, `read_of` and `accept_of` say, for every argument: their contracts have no premise, and the prover
+-- shows
 -- that they end. Assumes nothing.
 use Rattle.std.specs.Prelude.{true, cond, List, [], ◌∷◌, ◌++◌, ◌≡◌, ℕ, ◌+◌, ◌-◌, ◌≤◌, ◌<◌, eqb, length, take, drop, replicate}
 use Rattle.std.proofs.Common.{ap}

@@ -1,11 +1,6 @@
 -- The two positions of gathering stay within their buffers: the place of a line feed within the chunk's part, and the new length
 -- within the line. Assumes nothing.
-use mathlib.Core.Path.{◌≡◌, ap}
-use mathlib.Core.List.{List}
-use Prim.Native.Nat.{ℕ, ◌≤◌}
-use native.Mathlib.Omega.{arith}
-use lib.ListN.{length, take, length-append}
-use lib.Seq.{length-take-le}
+use Rattle.std.proofs.Common.{◌≡◌, ap, List, ℕ, ◌≤◌, arith, length, take, length-append, length-take-le}
 use Rattle.text.specs.Gather.{is_in_line}
 use Rattle.text.specs.Laws.Runs.{run_within}
 use Rattle.splice.specs.Put.{Put}

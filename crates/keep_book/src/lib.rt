@@ -1,6 +1,7 @@
 // A book built from text, for the program `keep`: its note from words, and a record from each line
 // that is a case.
 #![tactic(auto)]
+
 ghost use Rattle.std.specs.Prelude.{◌≡◌, ◌-◌, length, take};
 ghost use Rattle.keep_book.specs.Keeping.{next_word, keep_for, kept_of};
 ghost use Rattle.splice.specs.Put.{Put};

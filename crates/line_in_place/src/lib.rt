@@ -1,6 +1,7 @@
 // A line read where it stands in a chunk, without a copy of it. What is read is what
 // `text::line::read_line` says of the line; the usual line has a shorter way there (`plain`).
 #![tactic(auto)]
+
 mod number;
 mod plain;
 

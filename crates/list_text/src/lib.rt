@@ -2,6 +2,7 @@
 // `out` from `at` on, and answers the place after what it wrote. A bound on that place shows that the
 // next one has room.
 #![tactic(auto)]
+
 ghost use Rattle.std.specs.Prelude.{[], ◌∷◌, ◌++◌, ◌≡◌, ◌+◌, ◌*◌, ◌≤◌, length};
 ghost use Rattle.book.specs.Answers.{acceptance_of};
 ghost use Rattle.book_laws.specs.Layout.{rbk1};

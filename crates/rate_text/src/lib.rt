@@ -2,6 +2,7 @@
 // function writes into `out` from `at` on, and answers the place after what it wrote. A bound on
 // that place shows that the next one has room.
 #![tactic(auto)]
+
 ghost use Rattle.std.specs.Prelude.{◌+◌, ◌≤◌, length};
 ghost use Rattle.rate_text.specs.Answers.{answer_room, sheet_room, text_of, about_line, unreadable_text, printed_for, printed};
 ghost use Rattle.rating.specs.Rate.{answer_of};

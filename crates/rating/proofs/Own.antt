@@ -1,7 +1,6 @@
 -- Where a case has an arrangement, what the steps say of the one holds of the other. Assumes nothing.
-use mathlib.Core.Path.{◌≡◌, subst, subst⁻¹}
-use mathlib.Core.List.{List}
-use Prim.Native.Nat.{ℕ}
+use Rattle.std.proofs.Common.{◌≡◌, subst, List, ℕ}
+use Rattle.std.proofs.Math.Path.{subst⁻¹}
 use Rattle.rating.specs.declared.arrangement.Rules.{Rules}
 use Rattle.rating.specs.declared.arrangement.Losses.{Losses}
 use Rattle.rating.specs.declared.judge.Shared.{Shared}

@@ -1,12 +1,7 @@
 -- A word that was read as a temperature, `signed` of the stages: what is read back of it as an i64, and of a difference of two.
 -- Assumes nothing.
-use mathlib.Core.Path.{◌≡◌, ap₂}
-use Prim.Native.Nat.{ℕ, zero, suc, ◌≤◌, ◌<◌}
-use native.Mathlib.Omega.{arith}
-use lib.IntN.{ℤ, pos, negsuc, neg_ℤ, ◌-ℤ◌}
+use Rattle.std.proofs.Common.{◌≡◌, ap₂, ℕ, zero, suc, ◌≤◌, ◌<◌, arith, ℤ, pos, negsuc, neg_ℤ, ◌-ℤ◌, w32, to_z, SFits}
 use lib.Signed.{mag}
-use mir.Syntax.{w32}
-use mir.Val.{to_z, SFits}
 use mir.ValLaws.{to_z-Fits}
 use Rattle.stages.proofs.Signed.{Is, read, read_as, mag_sum}
 

@@ -1,6 +1,7 @@
 // The rating of docs/RATING.md: from the 26 words of a case to the answer, the rating and the sheet. Each arrangement has a module of
 // its own, and `rate` picks it.
 #![tactic(auto)]
+
 mod arrangement;
 mod both_ends;
 mod case;

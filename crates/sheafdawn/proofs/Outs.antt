@@ -1,10 +1,5 @@
 -- What stores leave in a slice of one or of three places, and the answer of an operation that writes. Assumes nothing.
-use mathlib.Core.List.{List, [], ◌∷◌}
-use mathlib.Core.Path.{◌≡◌, refl, sym}
-use Prim.Native.Nat.{ℕ}
-use native.Mathlib.Omega.{arith}
-use lib.ListN.{length, set}
-use borrow.Author.Tests.{eq-eqb}
+use Rattle.std.proofs.Common.{List, [], ◌∷◌, ◌≡◌, refl, sym, ℕ, arith, length, set, eq-eqb}
 use Rattle.book_laws.specs.Start.{Written}
 use Rattle.book.specs.declared.start.Written as Code
 use Rattle.book.specs.Answers.{written_of}

@@ -2,6 +2,7 @@
 // only, and no logic. A slice of a wrong length is refused by WRONG_LENGTH, and then nothing is
 // written. The header is include/sheafdawn.h, the Rust wrapper rust/sheafdawn.rs.
 #![tactic(auto)]
+
 mod copy;
 
 ghost use Rattle.std.specs.Prelude.{◌≡◌};

@@ -1,12 +1,8 @@
 -- Laws of `fixed`: its two cases, and how the digits after the point come from a number with a one in front of them.
 -- Assumes nothing.
-use mathlib.Core.List.{List, [], ◌∷◌, ◌++◌}
-use mathlib.Core.Path.{◌≡◌, refl, sym, ap, ◌∙◌}
-use Prim.Native.Nat.{ℕ, zero, suc, ◌+◌, ◌*◌, ◌/◌, ◌%◌, ◌^◌, ◌≤◌, ◌<◌}
-use native.Mathlib.Nat.{pow-suc, one-le-pow, mod-lt}
-use native.Mathlib.Omega.{arith}
-use lib.Dec.{lit<}
-use lib.ListN.{length, length-append}
+use Rattle.std.proofs.Common.{List, [], ◌∷◌, ◌++◌, ◌≡◌, refl, sym, ap, ◌∙◌, ℕ, zero, suc, ◌+◌, ◌*◌, ◌/◌, ◌%◌, ◌^◌, ◌≤◌, ◌<◌, pow-suc}
+use Rattle.std.proofs.Common.{mod-lt, arith, lit<, length, length-append}
+use Rattle.std.proofs.Math.Nat.{one-le-pow}
 use Rattle.decimals.specs.Decimal.{decimal, padded}
 use Rattle.decimals.proofs.Laws.Decimal.{decimal_small, decimal_large}
 use Rattle.splice.specs.Put.{Put}

@@ -2,6 +2,7 @@
 // symbol, value, unit and meaning, then the rating; or the refusal and its rule. ASCII only, so
 // that any terminal shows it.
 #![tactic(auto)]
+
 mod codes;
 mod field_rows;
 mod fixed;

@@ -1,10 +1,6 @@
 -- What `wide`'s quotients require: the divisor is above 0, and the quotient fits, since it is at most a number that does. Stated once
 -- over the rounding. Assumes nothing.
-use mathlib.Core.Path.{◌≡◌}
-use Prim.Native.Nat.{ℕ, ◌*◌, ◌^◌, ◌≤◌, ◌<◌}
-use native.Mathlib.Nat.{le_trans, lt_of_le_of_lt, mul-le-mul}
-use native.Mathlib.Omega.{arith}
-use lib.Dec.{T, leb, ltb, lit<, lit≤}
+use Rattle.std.proofs.Common.{◌≡◌, ℕ, ◌*◌, ◌^◌, ◌≤◌, ◌<◌, le_trans, lt_of_le_of_lt, mul-le-mul, arith, T, leb, ltb, lit<, lit≤}
 use Rattle.exact.specs.Rounding.{up, down}
 use Rattle.exact.specs.Trillion.{trillion}
 use Rattle.wide.specs.Laws.Ranges.{QuotientFits}

@@ -1,10 +1,8 @@
 -- The thirteen terms of stage 5 as a loop adds them, stated once over the rounding: what holds before each turn, and that a turn
 -- keeps it; and the terms that are left once a power is 0 or 1, by which a loop may end sooner. Assumes nothing.
-use mathlib.Core.Path.{◌≡◌, refl, sym, ap, subst, ◌∙◌}
-use Prim.Native.Nat.{ℕ, zero, suc, ◌+◌, ◌-◌, ◌*◌, ◌/◌, ◌^◌, ◌≤◌, ◌<◌}
-use native.Mathlib.Nat.{zero-add, le_trans, lt_of_le_of_lt, div-mul-le_self, lt-div-mul-add}
-use native.Mathlib.Omega.{arith}
-use lib.Dec.{lit<, lit≤}
+use Rattle.std.proofs.Common.{◌≡◌, refl, sym, ap, subst, ◌∙◌, ℕ, zero, suc, ◌+◌, ◌-◌, ◌*◌, ◌/◌, ◌^◌, ◌≤◌, ◌<◌, zero-add, le_trans}
+use Rattle.std.proofs.Common.{lt_of_le_of_lt, div-mul-le_self, arith, lit<, lit≤}
+use Rattle.std.proofs.Math.Nat.{lt-div-mul-add}
 use Rattle.exact.specs.Rounding.{up, down}
 use Rattle.exact.proofs.Laws.Rounding.{up_only, down_only}
 use Rattle.exact.specs.Trillion.{trillion}

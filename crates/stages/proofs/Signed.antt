@@ -1,15 +1,10 @@
 -- Signed arithmetic on an i64. A signed operation writes its number as bits and the next one reads them back, so the laws here
 -- say what is read back, and that a sum and a product are small where their operands are. Assumes nothing.
-use mathlib.Core.Path.{◌≡◌, ap, ◌∙◌, subst⁻¹}
-use mathlib.Core.Bool.{Bool, true, false, cond}
-use Prim.Native.Nat.{ℕ, zero, suc, ◌+◌, ◌-◌, ◌*◌, ◌≤◌}
-use native.Mathlib.Omega.{arith}
-use lib.Dec.{ltb}
-use lib.IntN.{ℤ, pos, negsuc, neg_ℤ, sub_ℕ, ◌+ℤ◌, ◌*ℤ◌}
+use Rattle.std.proofs.Common.{◌≡◌, ap, ◌∙◌, Bool, true, false, cond, ℕ, zero, suc, ◌+◌, ◌-◌, ◌*◌, ◌≤◌, arith, ltb, ℤ, pos, negsuc}
+use Rattle.std.proofs.Common.{neg_ℤ, ◌+ℤ◌, ◌*ℤ◌, w64, to_z, of_z, SFits, to_z-of_z}
+use Rattle.std.proofs.Math.Path.{subst⁻¹}
+use Rattle.std.proofs.Math.IntN.{sub_ℕ}
 use lib.Signed.{mag}
-use mir.Syntax.{w64}
-use mir.Val.{to_z, of_z, SFits}
-use mir.ValLaws.{to_z-of_z}
 
 -- what is read back of the bits of z
 abbrev pub read : ℤ → ℤ

@@ -1,6 +1,7 @@
 // The code of the stages of docs/RATING.md, one file for each as in the crate `formulas`. Each function's contract is the equation with
 // its definition there; its `requires` are ranges that the limits of the fields give.
 #![tactic(auto)]
+
 pub mod armour;
 pub mod common_sheath;
 mod constants;

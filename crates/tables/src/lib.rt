@@ -1,6 +1,7 @@
 // The constant tables of docs/RATING.md: ks and kp by conductor code, and the metals' coefficients. That a table is the definition's is
 // proved once, over the whole table; a code's row has it from there.
 #![tactic(auto)]
+
 ghost use Rattle.std.specs.Prelude.{true, ◌≡◌};
 ghost use Rattle.formulas.specs.Laws.Bounds.{most_conductor_code, most_metal_code};
 ghost use Rattle.formulas.specs.Laws.Ranges.{In};

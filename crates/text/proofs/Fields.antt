@@ -1,11 +1,7 @@
 -- What `fields` gives, said of the words that are left: how the loop of `text::line::read_fields` goes on by one word, and where it stops.
 -- Assumes nothing.
-use mathlib.Core.List.{List, []}
-use mathlib.Core.Path.{◌≡◌, sym, ap, ◌∙◌}
-use Prim.Native.Nat.{ℕ, suc, ◌-◌, ◌≤◌, ◌<◌}
-use native.Mathlib.Nat.{add-sub_cancel_left}
-use lib.ListN.{length, take, drop}
-use lib.Seq.{drop-drop}
+use Rattle.std.proofs.Common.{List, [], ◌≡◌, sym, ap, ◌∙◌, ℕ, suc, ◌-◌, ◌≤◌, ◌<◌, length, take, drop, drop-drop}
+use Rattle.std.proofs.Math.Nat.{add-sub_cancel_left}
 use Rattle.text.specs.declared.number.Reading.{Reading}
 use Rattle.text.specs.Gather.{piece}
 use Rattle.text.specs.Line.{a_case, unreadable, field, fields}

@@ -1,20 +1,10 @@
 -- The arithmetic of long division with digits of 32 bits: one digit that is guessed and corrected, two digits made one
 -- quotient, and numbers shifted to bring the divisor's top bit up. Assumes nothing.
-use mathlib.Core.Path.{◌≡◌, sym, ap, subst}
-use Prim.Native.Nat.{ℕ, zero, suc, zero-le, ◌+◌, ◌-◌, ◌*◌, ◌/◌, ◌%◌, ◌^◌, ◌≤◌, ◌<◌}
-use native.Mathlib.Nat.{
-  sub-add_cancel,
-  mul-le-mul,
-  mul-le-mul_right,
-  mul-lt-mul_of_pos_right,
-  le_of_mul-le-mul_right,
-  lt_of_mul-lt-mul_right,
-  mod-lt,
-  div-add-mod',
-  div-eq_of_eq-mul_left,
-}
-use native.Mathlib.Decide.{dec_le}
-use native.Mathlib.Omega.{arith}
+use Rattle.std.proofs.Common.{◌≡◌, sym, ap, subst, ℕ, zero, suc, zero-le, ◌+◌, ◌-◌, ◌*◌, ◌/◌, ◌%◌, ◌^◌, ◌≤◌, ◌<◌, sub-add_cancel}
+use Rattle.std.proofs.Common.{mul-le-mul, mul-le-mul_right, mul-lt-mul_of_pos_right, le_of_mul-le-mul_right, lt_of_mul-lt-mul_right}
+use Rattle.std.proofs.Common.{mod-lt, div-add-mod', arith}
+use Rattle.std.proofs.Math.Nat.{div-eq_of_eq-mul_left}
+use Rattle.std.proofs.Math.Decide.{dec_le}
 use Rattle.wide.specs.Split.{Split}
 use Rattle.wide.specs.Laws.Ranges.{DigitRanges, IsRemaining}
 

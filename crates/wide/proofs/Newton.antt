@@ -1,10 +1,8 @@
 -- Newton's steps for a square root, on any numbers: a step from any r above 0 comes to the root or above, and one from r
 -- above the root comes below r. Assumes nothing.
-use mathlib.Core.Path.{subst}
-use Prim.Native.Nat.{ℕ, ◌+◌, ◌*◌, ◌/◌, ◌≤◌, ◌<◌}
-use native.Mathlib.Nat.{le_dest, mul-le-mul_right, lt_of_mul-lt-mul_right, lt-div-mul-add, div-mul-le_self}
-use native.Mathlib.Decide.{dec_le}
-use native.Mathlib.Omega.{arith}
+use Rattle.std.proofs.Common.{subst, ℕ, ◌+◌, ◌*◌, ◌/◌, ◌≤◌, ◌<◌, mul-le-mul_right, lt_of_mul-lt-mul_right, div-mul-le_self, arith}
+use Rattle.std.proofs.Math.Nat.{le_dest, lt-div-mul-add}
+use Rattle.std.proofs.Math.Decide.{dec_le}
 
 squares_at : {a b : ℕ} → a ≤ b → 2 * (a * b) ≤ a * a + b * b
 squares_at {a} {b} h = subst (λ (x : ℕ). 2 * (a * x) ≤ a * a + x * x) (le_dest h).1 (apart (le_dest h).0)

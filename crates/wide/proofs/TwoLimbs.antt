@@ -1,12 +1,8 @@
 -- Arithmetic of two limbs over any base, so that no power of two is opened: the columns of a product, what a sum's upper
 -- limb can reach, and the order of two numbers. Assumes nothing.
-use mathlib.Core.Path.{◌≡◌, ap, sym, ◌∙◌}
-use Prim.Native.Nat.{ℕ, ◌+◌, ◌*◌, ◌/◌, ◌%◌, ◌≤◌, ◌<◌}
-use native.Mathlib.Nat.{mul-le-mul, mul-le-mul_right, div-add-mod', lt_of_mul-lt-mul_right}
-use native.Mathlib.Decide.{dec_lt}
-use native.Mathlib.Omega.{arith}
-use lib.Dec.{ltb}
-use borrow.Author.Tests.{lt-ltb, le-ltb}
+use Rattle.std.proofs.Common.{◌≡◌, ap, sym, ◌∙◌, ℕ, ◌+◌, ◌*◌, ◌/◌, ◌%◌, ◌≤◌, ◌<◌, mul-le-mul, mul-le-mul_right, div-add-mod'}
+use Rattle.std.proofs.Common.{lt_of_mul-lt-mul_right, arith, ltb, lt-ltb, le-ltb}
+use Rattle.std.proofs.Math.Decide.{dec_lt}
 
 -- a product of two halves leaves room for two more halves
 pub halves : {x y : ℕ} → x < 4294967296 → y < 4294967296 → x * y ≤ 18446744065119617025

@@ -15,7 +15,8 @@ use Rattle.book_laws.specs.Format.{records_bytes, trailer_bytes, count_at, dista
 use Rattle.book_laws.specs.Trailer.{Description, wrong_trailer, describe_at, describe_in}
 use Rattle.book_laws.specs.Build.{all_cases}
 use Rattle.book_laws.specs.Built.{book_bytes, used_for, FitsIn}
-use Rattle.book_laws.proofs.Laws.Bytes.{below_append, number_bytes_length, number_bytes_bytes, number_at_skip, number_at_after, stands_written}
+use Rattle.book_laws.proofs.Laws.Bytes.{below_append, number_bytes_length, number_bytes_bytes, number_at_skip, number_at_after}
+use Rattle.book_laws.proofs.Laws.Bytes.{stands_written}
 use Rattle.book_laws.proofs.Laws.Lawful.{Lawful, distance_of, count_of}
 use Rattle.book_laws.proofs.Laws.Record.{records_bytes_length}
 

@@ -1,7 +1,10 @@
 -- The laws of numbers in bytes: lengths, fields one after another, and that writing and reading undo each other, for numbers of any width
 -- and for bytes. Assumes nothing.
-use Rattle.std.specs.Prelude.{true, ◌&&◌, List, [], ◌∷◌, ◌++◌, ◌≡◌, refl, ℕ, zero, suc, ◌+◌, ◌*◌, ◌/◌, ◌%◌, ◌^◌, ◌≤◌, ◌<◌, eqb, ltb, length, get_or, take, drop}
-use Rattle.std.proofs.Common.{append_assoc, append-nil, sym, ap, ap₂, ◌∙◌, zero-add, suc-add, add-zero, add_assoc, pow-suc, add-one, arith, length-append, length-drop, get_or-append-add, get_or-drop, drop-cons, drop-drop, take-add, take-suc, ltb-true, lt-ltb, eqb-true, eq-eqb}
+use Rattle.std.specs.Prelude.{true, ◌&&◌, List, [], ◌∷◌, ◌++◌, ◌≡◌, refl, ℕ, zero, suc, ◌+◌, ◌*◌, ◌/◌, ◌%◌, ◌^◌, ◌≤◌, ◌<◌, eqb, ltb}
+use Rattle.std.specs.Prelude.{length, get_or, take, drop}
+use Rattle.std.proofs.Common.{append_assoc, append-nil, sym, ap, ap₂, ◌∙◌, zero-add, suc-add, add-zero, add_assoc, pow-suc, add-one}
+use Rattle.std.proofs.Common.{arith, length-append, length-drop, get_or-append-add, get_or-drop, drop-cons, drop-drop, take-add}
+use Rattle.std.proofs.Common.{take-suc, ltb-true, lt-ltb, eqb-true, eq-eqb}
 use Rattle.std.proofs.Math.Nat.{div-div-eq-div-mul}
 use Rattle.std.proofs.Math.Seq.{append_snoc, get_or-append_seam}
 use Rattle.std.proofs.lemmas.List.{get_or_at}
@@ -134,7 +137,8 @@ pub number_bytes_bytes : (w n : ℕ) → below 256 (number_bytes w n) ≡ true
 unfolding number_bytes below
 number_bytes_bytes zero n = refl
 number_bytes_bytes (suc w) n =
-    below_append 256 (number_bytes w (n / 256)) _ (number_bytes_bytes w (n / 256)) (ap (λ t. t && true) (lt-ltb (n % 256) 256 (omega arith)))
+    below_append 256 (number_bytes w (n / 256)) _ (number_bytes_bytes w (n / 256))
+    (ap (λ t. t && true) (lt-ltb (n % 256) 256 (omega arith)))
 
 -- A field as the code writes and reads it.
 

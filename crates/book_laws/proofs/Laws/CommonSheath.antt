@@ -35,8 +35,8 @@ pub record CommonSheathBook : Type 0 where
   pub lifted : accept_of (book 1 0) 128 ≡ record { number = 23; count = 0; note = 0; named = 1 }
 
 pub common_sheath_book : CommonSheathBook
-unfolding read_in read_after accept_in accept_after unaccepted on_book_in describe_in describe_at wrong_trailer agrees all_agree first_disagreeing
-    earliest trailer_bytes stands number_at number_bytes words_at words_bytes
+unfolding read_in read_after accept_in accept_after unaccepted on_book_in describe_in describe_at wrong_trailer agrees all_agree
+    first_disagreeing earliest trailer_bytes stands number_at number_bytes words_at words_bytes
 common_sheath_book =
     record {
       reads = refl;

@@ -27,7 +27,8 @@ use Rattle.book_laws.specs.Book.{
 }
 use Rattle.book_laws.proofs.Laws.Lawful.{rbk1_lawful}
 use Rattle.book_laws.proofs.Laws.Accept.{accepted_in, accepts_in}
-use Rattle.book_laws.proofs.Laws.Refused.{Unwritten, Unread, Unaccepted, start_in_refused, append_in_refused, read_in_refused, accept_in_refused}
+use Rattle.book_laws.proofs.Laws.Refused.{Unwritten, Unread, Unaccepted, start_in_refused, append_in_refused, read_in_refused}
+use Rattle.book_laws.proofs.Laws.Refused.{accept_in_refused}
 use Rattle.book_laws.proofs.Laws.Build.{build_in_fits}
 use Rattle.book_laws.proofs.Laws.ReadBack.{kept_in}
 use Rattle.book_laws.proofs.Laws.Cases.{cases_as_read_in, cases_read}

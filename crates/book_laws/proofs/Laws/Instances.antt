@@ -22,7 +22,8 @@ use Rattle.book_laws.specs.Built.{built_in}
 use Rattle.book_laws.specs.Book.{cases_of, describe, start_of, append_of, read_of, accept_of, Accepted, Appended, build, Kept}
 use Rattle.book_laws.proofs.Laws.Refused.{Unwritten, Unread, Unaccepted}
 use Rattle.book_laws.proofs.Laws.Margin.{safe, close}
-use Rattle.book_laws.proofs.Laws.Demands.{build_fits, kept, accepted, accepts, cases_as_read, appended, all_appended, rebuilt_whole, start_refused, append_refused, read_refused, accept_refused}
+use Rattle.book_laws.proofs.Laws.Demands.{build_fits, kept, accepted, accepts, cases_as_read, appended, all_appended, rebuilt_whole}
+use Rattle.book_laws.proofs.Laws.Demands.{start_refused, append_refused, read_refused, accept_refused}
 use Rattle.book_laws.proofs.Laws.Literal.{small_book, fresh_book, literal, edges}
 
 fine : Accepted small_book 130
@@ -84,8 +85,8 @@ unfolding all_cases append_in append_after on_book_in describe_in describe_at wr
 first_record = appended (fresh_book 224) 18 refl fresh_fine cable refl refl
 
 second_record : Appended one_record 130 (replicate 26 0) (append_of one_record 130 (replicate 26 0))
-unfolding all_cases append_in append_after on_book_in describe_in describe_at wrong_trailer stands number_at below splice fields_of record_bytes
-    words_bytes number_bytes trailer_bytes
+unfolding all_cases append_in append_after on_book_in describe_in describe_at wrong_trailer stands number_at below splice fields_of
+    record_bytes words_bytes number_bytes trailer_bytes
 second_record =
     appended one_record 130 first_record.still_bytes (accepted one_record 130 (ap (λ a. a.number) first_record.accepted))
     (replicate 26 0) refl refl
@@ -93,8 +94,8 @@ second_record =
 both_records :
     let book : Written = record { number = 0; used = 18; bytes = fresh_book 224 } in
     Kept (fresh_book 224) 2 two_cases (append_all rbk1 book two_cases)
-unfolding append_all append_in append_after on_book_in describe_in describe_at wrong_trailer stands number_at cases_read_in below splice fields_of
-    record_bytes words_bytes number_bytes trailer_bytes
+unfolding append_all append_in append_after on_book_in describe_in describe_at wrong_trailer stands number_at cases_read_in below splice
+    fields_of record_bytes words_bytes number_bytes trailer_bytes
 both_records = all_appended (fresh_book 224) 18 refl fresh_fine two_cases are_cases refl
 
 -- Refused by 24, by 24, by 26 and by 23.

@@ -128,9 +128,9 @@ abbrev accepted_as : (number rating n i : ℕ) → Acceptance
 accepted_as number rating n i = judged 2 (as_rated number rating n i ∷ [])
 
 pub literal : Literal
-unfolding start_in append_in append_after read_in read_after accept_in accept_after unwritten unread unaccepted on_book_in describe_in describe_at
-    undescribed wrong_trailer agrees all_agree first_disagreeing earliest fields_of record_bytes trailer_bytes stands number_at number_bytes
-    words_at words_bytes splice
+unfolding start_in append_in append_after read_in read_after accept_in accept_after unwritten unread unaccepted on_book_in describe_in
+    describe_at undescribed wrong_trailer agrees all_agree first_disagreeing earliest fields_of record_bytes trailer_bytes stands
+    number_at number_bytes words_at words_bytes splice
 literal =
     record {
       started = refl;
@@ -143,9 +143,9 @@ literal =
     }
 
 pub edges : Edges
-unfolding start_in append_in append_after read_in read_after accept_in accept_after unwritten unread unaccepted on_book_in describe_in describe_at
-    undescribed wrong_trailer agrees all_agree first_disagreeing earliest fields_of record_bytes trailer_bytes stands number_at number_bytes
-    words_at words_bytes splice
+unfolding start_in append_in append_after read_in read_after accept_in accept_after unwritten unread unaccepted on_book_in describe_in
+    describe_at undescribed wrong_trailer agrees all_agree first_disagreeing earliest fields_of record_bytes trailer_bytes stands
+    number_at number_bytes words_at words_bytes splice
 edges =
     record {
       length_over = refl;

@@ -33,8 +33,8 @@ pub record Named : Type 0 where
   pub all : accept_of (book 0 0 0) 352 ≡ record { number = 23; count = 0; note = 0; named = 1 }
 
 pub named : Named
-unfolding accept_in accept_after unaccepted on_book_in describe_in describe_at wrong_trailer agrees all_agree first_disagreeing earliest trailer_bytes
-    stands number_at number_bytes words_at words_bytes
+unfolding accept_in accept_after unaccepted on_book_in describe_in describe_at wrong_trailer agrees all_agree first_disagreeing earliest
+    trailer_bytes stands number_at number_bytes words_at words_bytes
 named =
     record {
       none = ap₂ (accepted_as 457106 457106 457106) answer.0 answer.1;

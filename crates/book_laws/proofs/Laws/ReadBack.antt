@@ -39,7 +39,8 @@ module _ {l : Layout} (lawful : Lawful l) (b : List ℕ) (note : ℕ) (xs : List
         ∙ records_read lawful xs after i cases h
 
     built_reads :
-        (i : ℕ) → i < length xs → read_in l book (used_for l note (length xs)) i ≡ record { number = 0; fields = fields_of l (get_or xs i []) }
+        (i : ℕ) → i < length xs →
+        read_in l book (used_for l note (length xs)) i ≡ record { number = 0; fields = fields_of l (get_or xs i []) }
     unfolding read_in read_after
     built_reads i h =
         on_book_on l book (used_for l note (length xs)) _ _ (sym (built_described lawful b note xs cases fit)) refl

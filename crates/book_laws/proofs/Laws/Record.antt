@@ -13,7 +13,8 @@ use Rattle.book_laws.specs.Layout.{Layout, record_fields, record_length}
 use Rattle.book_laws.specs.Format.{fields_of, record_bytes, records_bytes}
 use Rattle.book_laws.specs.Record.{place_from, case_at, answer_at, rating_at, agrees, all_agree}
 use Rattle.book_laws.specs.Build.{all_cases}
-use Rattle.book_laws.proofs.Laws.Bytes.{below_append, words_bytes_length, words_bytes_bytes, words_at_length, words_at_add, words_at_skip, words_at_written}
+use Rattle.book_laws.proofs.Laws.Bytes.{below_append, words_bytes_length, words_bytes_bytes, words_at_length, words_at_add}
+use Rattle.book_laws.proofs.Laws.Bytes.{words_at_skip, words_at_written}
 use Rattle.book_laws.proofs.Laws.Lawful.{Lawful}
 
 -- a case of the layout: as many words of 32 bits as it stores
@@ -147,7 +148,8 @@ judged l b at e =
     let split = both (eqb (answer_at l b at) a.number) (eqb (rating_at l b at) a.rating) e in
     record { answer_is = eqb-true _ _ split.0; rating_is = eqb-true _ _ split.1 }
 
-pub agreed_fields : (l : Layout) (b : List ℕ) (at : ℕ) → agrees l b at ≡ true → words_at b at (record_fields l) ≡ fields_of l (case_at l b at)
+pub agreed_fields : (l : Layout) (b : List ℕ) (at : ℕ) → agrees l b at ≡ true →
+    words_at b at (record_fields l) ≡ fields_of l (case_at l b at)
 unfolding fields_of
 agreed_fields l b at e =
     let is = judged l b at e in
@@ -160,7 +162,8 @@ module _ (l : Layout) (b : List ℕ) (first : ℕ) where
   unfolding all_agree
   all_agree_none = refl
 
-  pub all_agree_next : (n : ℕ) → all_agree l b first n ≡ true → agrees l b (place_from l first n) ≡ true → all_agree l b first (n + 1) ≡ true
+  pub all_agree_next : (n : ℕ) → all_agree l b first n ≡ true → agrees l b (place_from l first n) ≡ true →
+  all_agree l b first (n + 1) ≡ true
   unfolding all_agree
   all_agree_next n so_far agreed = ap (all_agree l b first) (add-one n) ∙ ap₂ ◌&&◌ so_far agreed
 

@@ -1,12 +1,11 @@
 -- A number whose digits are written in two parts: the front ones, then the last n with their zeros. Together they are the number's digits.
 -- Assumes nothing.
-use Rattle.std.specs.Prelude.{List, ◌≡◌, refl, ℕ, zero, suc, ◌+◌, ◌/◌, ◌%◌, ◌^◌, ◌≤◌, ◌<◌, length}
+use Rattle.std.specs.Prelude.{List, ◌≡◌, refl, ℕ, zero, suc, ◌+◌, ◌/◌, ◌%◌, ◌^◌, ◌≤◌, length}
 use Rattle.std.proofs.Common.{sym, ap, ◌∙◌, add_assoc, add-one, length-append}
 use Rattle.splice.specs.Put.{Put}
 use Rattle.splice.proofs.Laws.Put.{put_as, put_then}
 use Rattle.decimals.specs.Decimal.{decimal, padded, PutPadded}
 use Rattle.decimals.proofs.Laws.Decimal.{padded_split, decimal_split}
-use Rattle.decimals.specs.Laws.Parts.{DigitsFit}
 
 padded_length : (n x : ℕ) → length (padded n x) ≡ n
 unfolding padded

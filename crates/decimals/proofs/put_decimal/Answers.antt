@@ -19,21 +19,21 @@ front_in_parts l at x inside large front middle =
 
 -- the digits in front are at most 16 or, of a number of more than 16, four
 pub put_eight-requires : goal.put_eight-requires
-put_eight-requires c =     let x = c.args.x in
+put_eight-requires c = let x = c.args.x in
     record { room = omega (arith, count_below 7 (x / 100000000) (omega arith)); small = omega arith }
 
 pub put_eight-rest-requires : goal.put_eight-rest-requires
-put_eight-rest-requires c =     let x = c.args.x in
+put_eight-rest-requires c = let x = c.args.x in
     record { room = omega (arith, count_below 3 (x / 10000000000000000) (omega arith)); small = omega arith }
 
 pub put_eight-requires-2 : goal.put_eight-requires-2
-put_eight-requires-2 c =     let x = c.args.x in
+put_eight-requires-2 c = let x = c.args.x in
     record { room = omega (arith, count_below 3 (x / 10000000000000000) (omega arith)); small = omega arith }
 
 pub returns-then-x-lt-SIXTEEN_DIGITS : goal.returns-then-x-lt-SIXTEEN_DIGITS
-returns-then-x-lt-SIXTEEN_DIGITS c =     decimal_then _ _ (omega arith) 8 _ (omega arith) c.put_to_eight-rest.ensures c.put_eight.ensures
+returns-then-x-lt-SIXTEEN_DIGITS c = decimal_then _ _ (omega arith) 8 _ (omega arith) c.put_to_eight-rest.ensures c.put_eight.ensures
 
 pub returns : goal.returns
-returns c =     decimal_then _ _ (omega arith) 8 _ (omega arith)
+returns c = decimal_then _ _ (omega arith) 8 _ (omega arith)
     (front_in_parts _ _ _ (omega arith) (omega arith) c.put_to_eight-middle.ensures c.put_eight-rest.ensures)
     c.put_eight-2.ensures

@@ -11,6 +11,6 @@ unfolding spaced
 one x = ap (λ (t : List ℕ). 32 ∷ t) (sym (append-nil (decimal x)))
 
 pub returns : goal.returns
-returns c =     let x = c.args.x in
+returns c = let x = c.args.x in
     let both = put_then _ _ (32 ∷ []) (decimal x) (omega arith) c.put_byte-digits.ensures c.put_decimal.ensures in
     record { put = put_as _ _ (one x) both; within = omega (arith, count_64 x c.ranges.x.fits) }

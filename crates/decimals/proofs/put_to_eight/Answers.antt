@@ -6,8 +6,8 @@ use Rattle.decimals.proofs.Laws.Parts.{decimal_then}
 use Rattle.decimals.proofs.put_to_eight.Goals as goal
 
 pub put_four-requires : goal.put_four-requires
-put_four-requires c =     let x = c.args.x in
+put_four-requires c = let x = c.args.x in
     record { room = omega (arith, count_below 3 (x / 10000) (omega arith)); small = omega arith }
 
 pub returns : goal.returns
-returns c =     decimal_then _ _ (omega arith) 4 _ (omega arith) c.put_to_four-rest.ensures c.put_four.ensures
+returns c = decimal_then _ _ (omega arith) 4 _ (omega arith) c.put_to_four-rest.ensures c.put_four.ensures

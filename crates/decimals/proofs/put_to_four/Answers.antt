@@ -7,7 +7,7 @@ use Rattle.decimals.proofs.Laws.Leading.{ready_first, ready_next, ready_last}
 use Rattle.decimals.proofs.put_to_four.Goals as goal
 
 pub returns : goal.returns
-returns c =     let x = c.args.x in
+returns c = let x = c.args.x in
     ready_last x (x / 10) refl
     (ready_next (x / 10) (x / 100) (omega arith)
     (ready_next (x / 100) (x / 1000) (omega arith)

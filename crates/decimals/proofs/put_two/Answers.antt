@@ -12,7 +12,7 @@ two x a b h first second = ap₂ (λ (d e : ℕ). d ∷ e ∷ []) (omega arith) 
 
 pub returns : goal.returns
 unfolding padded
-returns c =     let a = c.digit in
+returns c = let a = c.digit in
     let b = c.digit-2 in
     let digits = two c.args.x a.result b.result c.requires.small a.ensures b.ensures in
     let both = put_then _ _ (a.result ∷ []) (b.result ∷ []) (omega arith) c.put_byte-last.ensures c.put_byte.ensures in

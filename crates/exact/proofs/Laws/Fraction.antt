@@ -1,7 +1,8 @@
 -- The laws of fractions: their orders, that sums, products and reciprocals keep them, and that up(a/b) and down(a/b) lie within 1
 -- of a/b. Assumes nothing.
 use Rattle.std.specs.Prelude.{Bool, true, false, ◌&&◌, ◌≡◌, refl, ℕ, ◌+◌, ◌*◌, ◌≤◌, ◌<◌, T, leb, ltb}
-use Rattle.std.proofs.Common.{sym, ap₂, mul-le-mul, le_refl, le_of_lt, le_of_eq, mul-le-mul_right, mul-lt-mul_of_pos_right, mul-pos, le_of_mul-le-mul_right, lt_of_mul-lt-mul_right, arith, lit<, lit≤}
+use Rattle.std.proofs.Common.{sym, ap₂, mul-le-mul, le_refl, le_of_lt, le_of_eq, mul-le-mul_right, mul-lt-mul_of_pos_right, mul-pos}
+use Rattle.std.proofs.Common.{le_of_mul-le-mul_right, lt_of_mul-lt-mul_right, arith, lit<, lit≤}
 use Rattle.exact.specs.Rounding.{up, down}
 use Rattle.exact.specs.Fraction.{Fraction, ◌over◌, whole, ◌+F◌, ◌*F◌, reciprocal, ◌≤F◌, ◌<F◌, ◌≃F◌}
 use Rattle.exact.proofs.Laws.Rounding.{up_above, up_close, down_below, down_close}

@@ -2,14 +2,21 @@
 use Rattle.std.specs.Prelude.{◌≡◌, refl, ℕ, ◌+◌, ◌*◌, ◌≤◌, ◌<◌}
 use Rattle.std.proofs.Common.{lit<, lit≤}
 use Rattle.exact.specs.Rounding.{up, down}
-use Rattle.exact.proofs.Laws.Rounding.{up_above, up_close, up_only, down_close, down_only, up_least, down_most, up_least_below, down_most_above, up_mono, down_mono, up_exact, down_exact, up_rest, down_rest, down_le_up, up_le_suc_down, up_pos, up_up}
+use Rattle.exact.proofs.Laws.Rounding.{up_above, up_close, up_only, down_close, down_only, up_least, down_most, up_least_below}
+use Rattle.exact.proofs.Laws.Rounding.{down_most_above, up_mono, down_mono, up_exact, down_exact, up_rest, down_rest, down_le_up}
+use Rattle.exact.proofs.Laws.Rounding.{up_le_suc_down, up_pos, up_up}
 use Rattle.exact.specs.Root.{IsRoot}
 use Rattle.exact.proofs.Laws.Root.{root_only, square_cancel_<}
 use Rattle.exact.specs.Fraction.{◌over◌, whole, ◌+F◌, ◌*F◌, ◌/F◌, reciprocal, ◌≤F◌, ◌<F◌, ◌≃F◌}
-use Rattle.exact.proofs.Laws.Fraction.{closed≤, ≃F_refl, ≤F_refl, ≤F_trans, <F-≤F_trans, ≤F-<F_trans, <F→≤F, ≃F→≤F, ≃F_sym, +F_mono, +F_mono_<, *F_mono, *F_mono_<, reciprocal_anti, *F-+F, over≤up, up<over, down≤over, over<down, whole_mono}
+use Rattle.exact.proofs.Laws.Fraction.{closed≤, ≃F_refl, ≤F_refl, ≤F_trans, <F-≤F_trans, ≤F-<F_trans, <F→≤F, ≃F→≤F, ≃F_sym, +F_mono}
+use Rattle.exact.proofs.Laws.Fraction.{+F_mono_<, *F_mono, *F_mono_<, reciprocal_anti, *F-+F, over≤up, up<over, down≤over, over<down}
+use Rattle.exact.proofs.Laws.Fraction.{whole_mono}
 use Rattle.exact.specs.Error.{parts, Within}
-use Rattle.exact.proofs.Laws.Error.{within_refl, within_weaken, within_trans, within_absorb, within_sum, within_times, within_product, within_reciprocal, within_saturate, within_relative_product, within_same, within_scale, within_relative_reciprocal}
-use Rattle.exact.proofs.Laws.RoundingError.{within_up, within_down, within_round, within_round_down, within_up_after, within_up_over, within_round_over}
+use Rattle.exact.proofs.Laws.Error.{within_refl, within_weaken, within_trans, within_absorb, within_sum, within_times, within_product}
+use Rattle.exact.proofs.Laws.Error.{within_reciprocal, within_saturate, within_relative_product, within_same, within_scale}
+use Rattle.exact.proofs.Laws.Error.{within_relative_reciprocal}
+use Rattle.exact.proofs.Laws.RoundingError.{within_up, within_down, within_round, within_round_down, within_up_after, within_up_over}
+use Rattle.exact.proofs.Laws.RoundingError.{within_round_over}
 
 seven_thirds_up : (7 ≤ up 7 3 * 3) × (up 7 3 * 3 < 7 + 3) × (up 7 3 ≡ 3) × (up 7 3 ≤ 3) × (0 < up 7 3) × (up (2 * 3 + 1) 3 ≡ 2 + 1)
 seven_thirds_up = (

@@ -1,7 +1,8 @@
 -- The laws of up(a/b) and down(a/b) that everything else uses: up(a/b) is the only q with a ≤ q·b < a + b, and down(a/b) the only q
 -- with q·b ≤ a < q·b + b. Assumes nothing.
 use Rattle.std.specs.Prelude.{◌≡◌, refl, ℕ, ◌+◌, ◌-◌, ◌*◌, ◌/◌, ◌≤◌, ◌<◌}
-use Rattle.std.proofs.Common.{sym, le_refl, le_trans, mul-le-mul_right, lt_of_mul-lt-mul_right, le_of_mul-le-mul_right, div-mul-le_self, arith}
+use Rattle.std.proofs.Common.{sym, le_refl, le_trans, mul-le-mul_right, lt_of_mul-lt-mul_right, le_of_mul-le-mul_right, div-mul-le_self}
+use Rattle.std.proofs.Common.{arith}
 use Rattle.std.proofs.Math.Nat.{div-eq_of_lt-le, lt-div-mul-add, div-div-eq-div-mul}
 use Rattle.exact.specs.Rounding.{up, down}
 

@@ -101,7 +101,8 @@ three_sheaths rs {r} {n} {x} rs≤ p =
     times))
 
 first_close :
-    {π : Fraction} {f rs b : ℕ} {b* : Fraction} → IsPi π → In 1000 6500 f → In least_sheath_resistance first_formula_limit rs → b ≤ trillion →
+    {π : Fraction} {f rs b : ℕ} {b* : Fraction} → IsPi π → In 1000 6500 f → In least_sheath_resistance first_formula_limit rs →
+    b ≤ trillion →
     Close 0 1 b* b → Within 196 (whole 19) (first_formula* (reactance* π f) rs b*) (whole (first_formula (reactance f) rs b))
 unfolding first_formula first_formula* common_ratio_squared ◌*F◌
 first_close {π} {f} {rs} {b} {b*} pi range rs-in b≤ p =

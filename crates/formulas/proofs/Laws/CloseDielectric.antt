@@ -5,7 +5,8 @@ use Rattle.std.proofs.Common.{arith, lit<, lit≤}
 use Rattle.exact.specs.Fraction.{Fraction, ◌over◌, whole, ◌+F◌, ◌*F◌, reciprocal, ◌≤F◌, ◌≃F◌}
 use Rattle.exact.proofs.Laws.Fraction.{closed≤, ≃F_refl}
 use Rattle.exact.specs.Error.{Within}
-use Rattle.exact.proofs.Laws.Error.{within_weaken, within_trans, within_same, within_times, within_scale, within_relative_product, within_relative_reciprocal}
+use Rattle.exact.proofs.Laws.Error.{within_weaken, within_trans, within_same, within_times, within_scale, within_relative_product}
+use Rattle.exact.proofs.Laws.Error.{within_relative_reciprocal}
 use Rattle.exact.proofs.Laws.RoundingError.{within_up}
 use Rattle.formulas.specs.Constants.{tera, IsPi}
 use Rattle.formulas.specs.Logarithm.{log_low, log_high, IsLog}

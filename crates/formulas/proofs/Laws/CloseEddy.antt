@@ -11,7 +11,8 @@ use Rattle.exact.proofs.Laws.Error.{within_weaken, within_same, within_times, wi
 use Rattle.exact.proofs.Laws.RoundingError.{within_up_after, within_up_over}
 use Rattle.formulas.specs.Constants.{tera, IsPi}
 use Rattle.formulas.specs.Reactance.{reactance, reactance*}
-use Rattle.formulas.specs.Sheath.{eddy_ratio, eddy_ratio_squared, eddy_factor, eddy_spacing, eddy_loss, eddy_ratio*, eddy_factor*, eddy_loss*}
+use Rattle.formulas.specs.Sheath.{eddy_ratio, eddy_ratio_squared, eddy_factor, eddy_spacing, eddy_loss, eddy_ratio*, eddy_factor*}
+use Rattle.formulas.specs.Sheath.{eddy_loss*}
 use Rattle.formulas.specs.Laws.Ranges.{In}
 use Rattle.formulas.proofs.Laws.Ranges.{reactance_range, eddy_factor_most, eddy_inner_most}
 use Rattle.formulas.proofs.Laws.CloseReactance.{reactance_close}
@@ -79,7 +80,8 @@ unfolding ◌+F◌ ◌*F◌ tera
 outer_units = closed≤ tt
 
 outer_close :
-    (rs : ℕ) (e* : Fraction) {r j n d s : ℕ} → j ≤ 2 → 0 < s → d ≤ s → n ≤ most_eddy_inner → Within r (whole 815) (e* *F whole rs) (whole n) →
+    (rs : ℕ) (e* : Fraction) {r j n d s : ℕ} → j ≤ 2 → 0 < s → d ≤ s → n ≤ most_eddy_inner →
+    Within r (whole 815) (e* *F whole rs) (whole n) →
     Within r (whole 1248) (whole (3 * j) *F whole rs *F e* *F (d * d over 4 * (s * s))) (whole (up (3 * j * n * eddy_spacing d s) tera))
 unfolding ◌*F◌
 outer_close rs e* {r} {j} {n} {d} {s} j≤ s>0 d≤s n≤ p =
@@ -100,7 +102,8 @@ outer_close rs e* {r} {j} {n} {d} {s} j≤ s>0 d≤s n≤ p =
     all))
 
 pub eddy_close :
-    {j f rs d s : ℕ} {π : Fraction} → IsPi π → In 1000 6500 f → In least_sheath_resistance most_resistance rs → 5 * reactance f ≤ rs → j ≤ 2 →
+    {j f rs d s : ℕ} {π : Fraction} → IsPi π → In 1000 6500 f → In least_sheath_resistance most_resistance rs → 5 * reactance f ≤ rs →
+    j ≤ 2 →
     0 < d → d ≤ s → Within 13080 (whole 1248) (eddy_loss* j (reactance* π f) rs d s) (whole (eddy_loss j (reactance f) rs d s))
 unfolding eddy_loss eddy_loss*
 eddy_close {f = f} {rs} pi f-range rs-range b≤ j≤ d>0 d≤s =

@@ -21,7 +21,8 @@ use Rattle.formulas.specs.Proximity.{
   ac_resistance*,
 }
 use Rattle.formulas.specs.Logarithm.{doublings, octaves, doubled, series, first_power, thirteen_terms, log_low, log_high, IsLog}
-use Rattle.formulas.specs.Spacing.{spacing_log_high, spacing_log_low, sheath_reactance, sheath_reactance_low, spacing_log*, sheath_reactance*}
+use Rattle.formulas.specs.Spacing.{spacing_log_high, spacing_log_low, sheath_reactance, sheath_reactance_low, spacing_log*}
+use Rattle.formulas.specs.Spacing.{sheath_reactance*}
 use Rattle.formulas.specs.Sheath.{
   bond_ratio,
   bond_ratio_squared,
@@ -222,8 +223,8 @@ abbrev e* : Fraction
 e* = unit_rise* 3 r* (sl_loss* X* rs) w* 350000 40000 60000 450000
 
 r_least : least_conductor_resistance ≤ r
-unfolding ac_resistance skin_factor factor skin_ratio_squared skin_ratio skin_reactance proximity_factor proximity_g
-    proximity_h spacing_ratio pi_high tera up
+unfolding ac_resistance skin_factor factor skin_ratio_squared skin_ratio skin_reactance proximity_factor proximity_g proximity_h
+    spacing_ratio pi_high tera up
 r_least = lit≤ tt
 
 e_close : Within 160000 (whole 0) e* (whole e)
@@ -235,17 +236,16 @@ e_close =
     r_least 3 350000 40000 60000 450000 (lit< tt) (lit≤ tt) (lit≤ tt)
 
 dd_share : 10 * dd ≤ 9 * 70000000000
-unfolding dielectric_rise dielectric_resistance dielectric_loss reactance log_low thirteen_terms series first_power
-    doubled octaves doublings ln2_low pi_high tera up down
+unfolding dielectric_rise dielectric_resistance dielectric_loss reactance log_low thirteen_terms series first_power doubled octaves
+    doublings ln2_low pi_high tera up down
 dd_share = lit≤ tt
 
 carries : IsRating (70000000000 - dd) e 457106
-unfolding unit_rise ac_resistance skin_factor factor skin_ratio_squared skin_ratio skin_reactance proximity_factor
-    proximity_g proximity_h spacing_ratio sl_loss three_halves circulating_loss bond_ratio_squared bond_ratio sheath_reactance
-    sheath_reactance_low spacing_log_high spacing_log_low armour_loss screened_loss screening_ratio_squared unscreened_loss
-    reduced_armour_resistance armour_ratio_squared armour_ratio dielectric_rise dielectric_resistance dielectric_loss
-    reactance reactance_low log_low log_high thirteen_terms series first_power doubled octaves doublings ln2_low ln2_high
-    pi_low pi_high tera up down
+unfolding unit_rise ac_resistance skin_factor factor skin_ratio_squared skin_ratio skin_reactance proximity_factor proximity_g proximity_h
+    spacing_ratio sl_loss three_halves circulating_loss bond_ratio_squared bond_ratio sheath_reactance sheath_reactance_low
+    spacing_log_high spacing_log_low armour_loss screened_loss screening_ratio_squared unscreened_loss reduced_armour_resistance
+    armour_ratio_squared armour_ratio dielectric_rise dielectric_resistance dielectric_loss reactance reactance_low log_low log_high
+    thirteen_terms series first_power doubled octaves doublings ln2_low ln2_high pi_low pi_high tera up down
 carries = record { carried = lit≤ tt; no_more = lit< tt }
 
 -- The permitted rise is 70 K.

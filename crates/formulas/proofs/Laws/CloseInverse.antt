@@ -6,7 +6,8 @@ use Rattle.exact.specs.Rounding.{down}
 use Rattle.exact.specs.Fraction.{Fraction, ◌over◌, whole, ◌+F◌, ◌*F◌, reciprocal, ◌/F◌, square, ◌≤F◌, ◌≃F◌}
 use Rattle.exact.proofs.Laws.Fraction.{closed≤, ≃F_refl, ≤F_refl}
 use Rattle.exact.specs.Error.{parts, Within}
-use Rattle.exact.proofs.Laws.Error.{within_refl, within_weaken, within_trans, within_same, within_absorb, within_sum, within_times, within_scale, within_relative_product, within_relative_reciprocal}
+use Rattle.exact.proofs.Laws.Error.{within_refl, within_weaken, within_trans, within_same, within_absorb, within_sum, within_times}
+use Rattle.exact.proofs.Laws.Error.{within_scale, within_relative_product, within_relative_reciprocal}
 use Rattle.exact.proofs.Laws.RoundingError.{within_down, within_round_down}
 use Rattle.exact.specs.Trillion.{trillion}
 use Rattle.formulas.specs.Constants.{tera, pi_low, IsPi}

@@ -23,8 +23,10 @@ use Rattle.formulas.specs.Proximity.{
   ac_resistance*,
 }
 use Rattle.formulas.specs.Laws.Ranges.{In}
-use Rattle.formulas.proofs.Laws.Ranges.{skin_ratio_squared_most, factor_most, spacing_ratio_most, proximity_h_most, proximity_g_most, proximity_factor_most, ac_resistance_range}
-use Rattle.formulas.proofs.Laws.OverT.{Close, rewrite_above, round_up, saturate_times, no_units, quotient_close, sum_close, product_close, units_absorb}
+use Rattle.formulas.proofs.Laws.Ranges.{skin_ratio_squared_most, factor_most, spacing_ratio_most, proximity_h_most, proximity_g_most}
+use Rattle.formulas.proofs.Laws.Ranges.{proximity_factor_most, ac_resistance_range}
+use Rattle.formulas.proofs.Laws.OverT.{Close, rewrite_above, round_up, saturate_times, no_units, quotient_close, sum_close}
+use Rattle.formulas.proofs.Laws.OverT.{product_close, units_absorb}
 use Rattle.formulas.proofs.Laws.CloseSkin.{skin_factor_close}
 use Rattle.formulas.proofs.Laws.LogRange.{tera>0}
 use Rattle.formulas.specs.Laws.Bounds.{least_conductor_resistance, most_resistance, most_skin_factor, most_proximity_factor}
@@ -78,7 +80,8 @@ one_close =
     rewrite_above same no_units (within_weaken (lit≤ tt) (≤F_refl (whole 0) (lit< tt)) (within_refl (≤F_refl (whole 1) (lit< tt))))
 
 pub ac_resistance_close :
-    {r' ys yp : ℕ} {x y : Fraction} → In least_conductor_resistance most_resistance r' → ys ≤ most_skin_factor → yp ≤ most_proximity_factor →
+    {r' ys yp : ℕ} {x y : Fraction} → In least_conductor_resistance most_resistance r' → ys ≤ most_skin_factor →
+    yp ≤ most_proximity_factor →
     Close 132 2 x ys → Close 132 16 y yp → Within 178 (whole 0) (ac_resistance* r' x y) (whole (ac_resistance r' ys yp))
 unfolding ac_resistance ac_resistance* ◌*F◌
 ac_resistance_close {r'} {ys} {yp} r'-range ys≤ yp≤ p q =

@@ -1,7 +1,8 @@
 -- Stage 10 from bounds on E and dd alone: the exact rise at the rating is at most the permitted rise, and at 2 mA more it is above.
 -- An arrangement adds only how close its own R, S, W and dd are. Assumes nothing.
 use Rattle.std.specs.Prelude.{◌≡◌, ℕ, ◌+◌, ◌*◌, ◌^◌, ◌≤◌, ◌<◌}
-use Rattle.std.proofs.Common.{sym, ◌∙◌, ap, le_refl, le_trans, le_of_eq, lt_of_le_of_lt, add-le-add, add-mul, mul_assoc, mul-le-mul_right, mul-le-mul_left, mul-lt-mul_of_pos_right, arith}
+use Rattle.std.proofs.Common.{sym, ◌∙◌, ap, le_refl, le_trans, le_of_eq, lt_of_le_of_lt, add-le-add, add-mul, mul_assoc}
+use Rattle.std.proofs.Common.{mul-le-mul_right, mul-le-mul_left, mul-lt-mul_of_pos_right, arith}
 use Rattle.std.proofs.Math.Nat.{lt_of_lt_of_le, mul-pos, lt_of_mul-lt-mul_left}
 use Rattle.std.proofs.Math.Dec.{lit<}
 use Rattle.exact.specs.Fraction.{Fraction, ◌over◌, whole, ◌+F◌, ◌*F◌, reciprocal, square, ◌≤F◌, ◌<F◌}

@@ -7,7 +7,8 @@ use Rattle.exact.proofs.Laws.Rounding.{up_least_below}
 use Rattle.exact.specs.Fraction.{Fraction, ◌over◌, whole, ◌+F◌, ◌*F◌, reciprocal, ◌/F◌, square, ◌≤F◌}
 use Rattle.exact.proofs.Laws.Fraction.{closed≤, ≤F_refl}
 use Rattle.exact.specs.Error.{parts, Within}
-use Rattle.exact.proofs.Laws.Error.{within_weaken, within_trans, within_same, within_scale, within_times, within_relative_product, within_saturate}
+use Rattle.exact.proofs.Laws.Error.{within_weaken, within_trans, within_same, within_scale, within_times, within_relative_product}
+use Rattle.exact.proofs.Laws.Error.{within_saturate}
 use Rattle.exact.proofs.Laws.RoundingError.{within_up_after, within_up_over, within_round_over}
 use Rattle.exact.specs.Trillion.{trillion}
 use Rattle.formulas.specs.Constants.{tera}
@@ -76,7 +77,8 @@ unfolding bond_ratio tera
 bond_ratio_least X≥ rs-range = up_least_below _ _ (omega (arith, rs-range.least)) (omega (arith, rs-range.most))
 
 pub bond_ratio_close :
-    {X rs : ℕ} {X* : Fraction} → least_sheath_reactance ≤ X → In least_sheath_resistance most_resistance rs → Within 200 (whole 0) X* (whole X) →
+    {X rs : ℕ} {X* : Fraction} → least_sheath_reactance ≤ X → In least_sheath_resistance most_resistance rs →
+    Within 200 (whole 0) X* (whole X) →
     Within 4900 (whole 0) (bond_ratio* X* rs) (bond_ratio X rs over tera)
 unfolding bond_ratio bond_ratio*
 bond_ratio_close X≥ rs-range p =
@@ -106,7 +108,8 @@ bond_ratio_squared_rounds v =
     }
 
 pub bond_ratio_squared_close :
-    {X rs : ℕ} {X* : Fraction} → least_sheath_reactance ≤ X → In least_sheath_resistance most_resistance rs → Within 200 (whole 0) X* (whole X) →
+    {X rs : ℕ} {X* : Fraction} → least_sheath_reactance ≤ X → In least_sheath_resistance most_resistance rs →
+    Within 200 (whole 0) X* (whole X) →
     Within 9800 (1 over tera) (square (bond_ratio* X* rs)) (bond_ratio_squared (bond_ratio X rs) over tera)
 bond_ratio_squared_close {X} {rs} X≥ rs-range p =
     let v_close = bond_ratio_close X≥ rs-range p in
@@ -133,7 +136,8 @@ loss_close {r} {v2} {rs} rs≤ p =
     times_rs))
 
 pub circulating_close :
-    {X rs : ℕ} {X* : Fraction} → least_sheath_reactance ≤ X → In least_sheath_resistance most_resistance rs → Within 200 (whole 0) X* (whole X) →
+    {X rs : ℕ} {X* : Fraction} → least_sheath_reactance ≤ X → In least_sheath_resistance most_resistance rs →
+    Within 200 (whole 0) X* (whole X) →
     Within 9800 (whole 408) (circulating_loss* X* rs) (whole (circulating_loss X rs))
 unfolding circulating_loss circulating_loss*
 circulating_close X≥ rs-range p = loss_close rs-range.most (bond_ratio_squared_close X≥ rs-range p)
@@ -143,7 +147,8 @@ unfolding ◌+F◌ ◌*F◌
 three_halves_of = closed≤ tt
 
 pub sl_close :
-    {X rs : ℕ} {X* : Fraction} → least_sheath_reactance ≤ X → In least_sheath_resistance most_resistance rs → Within 200 (whole 0) X* (whole X) →
+    {X rs : ℕ} {X* : Fraction} → least_sheath_reactance ≤ X → In least_sheath_resistance most_resistance rs →
+    Within 200 (whole 0) X* (whole X) →
     Within 9800 (whole 613) (sl_loss* X* rs) (whole (sl_loss X rs))
 unfolding sl_loss sl_loss* three_halves ◌*F◌
 sl_close {X} {rs} {X*} X≥ rs-range p =

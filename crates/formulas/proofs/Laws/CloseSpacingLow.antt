@@ -1,6 +1,6 @@
 -- X- against the exact X: it is not above it, and below it by at most 200 parts in 10^12 and 1. The armour's screening takes X-, so
 -- that W is not too small. Assumes nothing.
-use Rattle.std.specs.Prelude.{ℕ, ◌+◌, ◌*◌, ◌^◌, ◌≤◌, ◌<◌}
+use Rattle.std.specs.Prelude.{ℕ, ◌*◌, ◌^◌, ◌≤◌, ◌<◌}
 use Rattle.std.proofs.Common.{mul-le-mul, le_trans, le-add_right, arith, lit<, lit≤}
 use Rattle.exact.specs.Rounding.{up, down}
 use Rattle.exact.proofs.Laws.Rounding.{down_most}

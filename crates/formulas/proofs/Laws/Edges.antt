@@ -125,8 +125,8 @@ pub record CommonSheathStarred : Type 0 where
   pub S_least : common_loss (reactance 1000) 407000000000000 100 50000 ≡ 497
 
 pub common_sheath_starred : CommonSheathStarred
-unfolding up down tera pi_high reactance axis_ratio axis_ratio_squared common_ratio common_ratio_squared is_first first_formula second_formula
-    common_loss
+unfolding up down tera pi_high reactance axis_ratio axis_ratio_squared common_ratio common_ratio_squared is_first first_formula
+    second_formula common_loss
 common_sheath_starred =
     record {
       b_half = refl;

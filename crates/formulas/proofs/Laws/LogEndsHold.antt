@@ -26,7 +26,8 @@ use Rattle.formulas.specs.Logarithm.{
   artanh_rest,
 }
 use Rattle.formulas.proofs.Laws.Octaves.{Largest, octaves_largest}
-use Rattle.formulas.proofs.Laws.LogEndsSum.{terms_from, odd_power, term_pos, sum_split, sum_terms, rest_covers, rest_pos, sum_mono, sum_rest}
+use Rattle.formulas.proofs.Laws.LogEndsSum.{terms_from, odd_power, term_pos, sum_split, sum_terms, rest_covers, rest_pos, sum_mono}
+use Rattle.formulas.proofs.Laws.LogEndsSum.{sum_rest}
 use Rattle.formulas.proofs.Laws.LogRange.{tera>0}
 
 -- The product of two powers over T, rounded either way.

@@ -1,6 +1,7 @@
 -- Stage 5's k is what docs/RATING.md says it is: the largest with 2^k b ≤ a. Assumes nothing.
 use Rattle.std.specs.Prelude.{◌≡◌, refl, Bool, true, false, cond, ℕ, zero, suc, ◌*◌, ◌^◌, ◌≤◌, ◌<◌, leb}
-use Rattle.std.proofs.Common.{ap, pow-suc, le_antisymm, lt_of_not-le, lt_of_lt_of_le, lt_of_mul-lt-mul_right, le-mul_of_pos_right, arith, pow_mono, leb-true, leb-false}
+use Rattle.std.proofs.Common.{ap, pow-suc, le_antisymm, lt_of_not-le, lt_of_lt_of_le, lt_of_mul-lt-mul_right, le-mul_of_pos_right}
+use Rattle.std.proofs.Common.{arith, pow_mono, leb-true, leb-false}
 use Rattle.std.proofs.Math.Nat.{pow-zero}
 use Rattle.formulas.specs.Logarithm.{doublings, octaves}
 

@@ -6,7 +6,8 @@ use Rattle.exact.specs.Rounding.{up}
 use Rattle.exact.specs.Fraction.{Fraction, ◌over◌, whole, ◌+F◌, ◌*F◌, reciprocal, ◌/F◌, ◌≤F◌, ◌≃F◌}
 use Rattle.exact.proofs.Laws.Fraction.{≃F_refl, ≤F_refl, ≤F_trans}
 use Rattle.exact.specs.Error.{parts, Within}
-use Rattle.exact.proofs.Laws.Error.{within_weaken, within_same, within_times, within_product, within_saturate, within_refl, within_absorb, within_sum}
+use Rattle.exact.proofs.Laws.Error.{within_weaken, within_same, within_times, within_product, within_saturate, within_refl}
+use Rattle.exact.proofs.Laws.Error.{within_absorb, within_sum}
 use Rattle.exact.proofs.Laws.RoundingError.{within_up_over}
 use Rattle.exact.specs.Trillion.{trillion}
 use Rattle.formulas.specs.Constants.{tera}

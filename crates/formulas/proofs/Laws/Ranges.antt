@@ -138,12 +138,14 @@ third_most : (is-two : Bool) (third : ℕ) → cond is-two third 0 ≤ third
 third_most true third = omega arith
 third_most false third = omega arith
 
-pub spacing_log_high_most : (arrangement s d : ℕ) → 0 < d → d ≤ 2 * s → 2 * s < 32768 * d → spacing_log_high arrangement s d ≤ most_spacing_log
+pub spacing_log_high_most : (arrangement s d : ℕ) → 0 < d → d ≤ 2 * s → 2 * s < 32768 * d →
+    spacing_log_high arrangement s d ≤ most_spacing_log
 unfolding spacing_log_high ln2_third_high
 spacing_log_high_most arrangement s d d>0 d≤ <d =
     omega (arith, log_high_most (2 * s) d d>0 d≤ <d, third_most (eqb arrangement 2) 231049060187)
 
-pub spacing_log_low_most : (arrangement s d : ℕ) → 0 < d → d ≤ 2 * s → 2 * s < 32768 * d → spacing_log_low arrangement s d ≤ most_spacing_log
+pub spacing_log_low_most : (arrangement s d : ℕ) → 0 < d → d ≤ 2 * s → 2 * s < 32768 * d →
+    spacing_log_low arrangement s d ≤ most_spacing_log
 unfolding spacing_log_low ln2_third_low
 spacing_log_low_most arrangement s d d>0 d≤ <d =
     omega (arith, log_low_most (2 * s) d d>0 d≤ <d, third_most (eqb arrangement 2) 231049060186)

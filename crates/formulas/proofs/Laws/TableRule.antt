@@ -1,6 +1,6 @@
 -- A rule of a table at its codes, from one test that antt computes over the whole table. It holds of rows of any type, so that the tables
 -- of the definitions and those of the code have their rules by the same law. Assumes nothing.
-use Rattle.std.specs.Prelude.{Bool, true, ◌&&◌, List, [], ◌∷◌, ◌≡◌, ℕ, zero, suc, ◌-◌, ◌≤◌, get_or, length}
+use Rattle.std.specs.Prelude.{Bool, true, List, [], ◌∷◌, ◌≡◌, ℕ, zero, suc, ◌-◌, ◌≤◌, get_or, length}
 use Rattle.std.proofs.Common.{subst, arith}
 use Rattle.bools.proofs.Laws.Tests.{both}
 use Rattle.formulas.specs.Laws.Ranges.{In}

@@ -1,6 +1,7 @@
 -- Stage 1's factor is above 0 within the limits of the fields, however cold the sheath or the armour is, so its absolute value is
 -- the factor itself. Assumes nothing.
-use Rattle.std.specs.Prelude.{◌≡◌, refl, Bool, true, false, cond, ℕ, zero, suc, ◌-◌, ◌*◌, ◌≤◌, ltb, ℤ, pos, negsuc, neg_ℤ, ◌+ℤ◌, ◌-ℤ◌, ◌*ℤ◌, nat_abs, ◌≤ℤ◌}
+use Rattle.std.specs.Prelude.{◌≡◌, refl, Bool, true, false, cond, ℕ, zero, suc, ◌-◌, ◌*◌, ◌≤◌, ltb, ℤ, pos, negsuc, neg_ℤ, ◌+ℤ◌, ◌-ℤ◌}
+use Rattle.std.specs.Prelude.{◌*ℤ◌, nat_abs, ◌≤ℤ◌}
 use Rattle.std.proofs.Common.{ap, mul-le-mul, arith, leb→le, ltb-true, le-ltb}
 use Rattle.std.proofs.Math.Path.{subst⁻¹}
 use Rattle.formulas.specs.Resistance.{temperature_factor}

@@ -117,13 +117,12 @@ pub record Recomputed : Type 0 where
 
 pub recomputed : Recomputed
 unfolding up down root conductor_metal tera pi_low pi_high ln2_low ln2_high ln2_third_low ln2_third_high temperature_factor resistance
-    skin_reactance skin_ratio skin_ratio_squared factor skin_factor spacing_ratio proximity_h proximity_g proximity_factor
-    ac_resistance octaves doubled first_power thirteen_terms log_low log_high spacing_log_high spacing_log_low
-    sheath_reactance sheath_reactance_low bond_ratio bond_ratio_squared circulating_loss three_halves sl_loss eddy_ratio
-    eddy_ratio_squared eddy_factor eddy_spacing eddy_loss axis_ratio axis_ratio_squared common_ratio common_ratio_squared
-    is_first first_formula second_formula common_loss armour_ratio armour_ratio_squared reduced_armour_resistance
-    unscreened_loss screening_ratio_squared screened_loss armour_loss dielectric_loss dielectric_resistance dielectric_rise
-    permitted_rise current_rise unit_rise rating
+    skin_reactance skin_ratio skin_ratio_squared factor skin_factor spacing_ratio proximity_h proximity_g proximity_factor ac_resistance
+    octaves doubled first_power thirteen_terms log_low log_high spacing_log_high spacing_log_low sheath_reactance sheath_reactance_low
+    bond_ratio bond_ratio_squared circulating_loss three_halves sl_loss eddy_ratio eddy_ratio_squared eddy_factor eddy_spacing eddy_loss
+    axis_ratio axis_ratio_squared common_ratio common_ratio_squared is_first first_formula second_formula common_loss armour_ratio
+    armour_ratio_squared reduced_armour_resistance unscreened_loss screening_ratio_squared screened_loss armour_loss dielectric_loss
+    dielectric_resistance dielectric_rise permitted_rise current_rise unit_rise rating
 recomputed =
     record {
       alpha_rows = refl;

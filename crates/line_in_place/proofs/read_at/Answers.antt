@@ -10,7 +10,7 @@ use Rattle.line_in_place.proofs.read_at.Goals as goal
 
 pub returns-then-plain : goal.returns-then-plain
 unfolding line_of answer read_line
-returns-then-plain c =     let line = c.plain_line-plain.ensures c.if-plain.true in
+returns-then-plain c = let line = c.plain_line-plain.ensures c.if-plain.true in
     stands_whole _ _ _ _ line.end line.inside (sym (ap answer line.says))
 
 pub returns : goal.returns

@@ -35,4 +35,7 @@ returns c =
     let two = put_then _ _ number answer (omega arith) c.put_decimal-first.ensures c.put_number-second.ensures.put in
     let three = put_then _ _ (number ++ answer) rating (omega arith) two c.put_number-third.ensures.put in
     let four = put_then _ _ (number ++ answer ++ rating) (10 ∷ []) (omega arith) three c.put_byte.ensures in
-    record { put = put_as _ _ (whole a.number a.answer a.rating) four; within = omega (arith, short (goal.at.returns c).After-put_decimal-first) }
+    record {
+      put = put_as _ _ (whole a.number a.answer a.rating) four;
+      within = omega (arith, short (goal.at.returns c).After-put_decimal-first);
+    }

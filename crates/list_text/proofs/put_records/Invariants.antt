@@ -12,7 +12,7 @@ pub record Lines (out₀ : List ℕ) (at : ℕ) (book : List ℕ) (first count :
   pub lines : PutWithin out₀ at (record_lines rbk1 book first i) out end (at + 63 * i)
 
 abbrev pub invariant-loop-i : goal.invariant-loop-i
-invariant-loop-i l =     Lines l.initial.out l.at l.book l.first l.count l.out l.end l.i
+invariant-loop-i l = Lines l.initial.out l.at l.book l.first l.count l.out l.end l.i
 
 abbrev pub decreases-loop-i : goal.decreases-loop-i
 decreases-loop-i l = l.count - l.i

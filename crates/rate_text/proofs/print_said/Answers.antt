@@ -32,4 +32,5 @@ returns c =
     put_within_as _ _ text c.put_unreadable.ensures
 
 pub returns-then-said-eq-PASSED_OVER : goal.returns-then-said-eq-PASSED_OVER
-returns-then-said-eq-PASSED_OVER c = record { put = put_as _ _ (nothing _ _ c.if-said-eq-PASSED_OVER.true) (put_nothing _ _); within = omega arith }
+returns-then-said-eq-PASSED_OVER c =
+    record { put = put_as _ _ (nothing _ _ c.if-said-eq-PASSED_OVER.true) (put_nothing _ _); within = omega arith }

@@ -30,7 +30,10 @@ returns c =
     let two = put_then _ _ answer rating (omega arith) c.put_decimal-first.ensures c.put_number-second.ensures.put in
     let three = put_then _ _ (answer ++ rating) sheet (omega arith) two c.put_sheet-end.ensures.put in
     let four = put_then _ _ (answer ++ rating ++ sheet) (10 ∷ []) (omega arith) three c.put_byte.ensures in
-    record { put = put_as _ _ (whole a.answer a.rating a.sheet) four; within = omega (arith, short (goal.at.returns c).After-put_decimal-first) }
+    record {
+      put = put_as _ _ (whole a.answer a.rating a.sheet) four;
+      within = omega (arith, short (goal.at.returns c).After-put_decimal-first);
+    }
 
 pub put_number-second-requires : goal.put_number-second-requires
 put_number-second-requires c = omega (arith, short (goal.at.put_number-second-requires c).After-put_decimal-first)

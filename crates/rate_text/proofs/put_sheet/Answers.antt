@@ -1,7 +1,8 @@
 -- `rate_text::put_sheet` meets its contract. The invariant: the first i numbers stand from `at` on, in at most 21 bytes each. The
 -- measure is how many are left.
 -- Assumes nothing.
-use Rattle.std.proofs.Common.{List, [], add-one, ap, arith, get_or, length, refl, sym, take, take-suc, take_all, ℕ, ◌++◌, ◌+◌, ◌<◌, ◌∙◌, ◌∷◌, ◌≡◌}
+use Rattle.std.proofs.Common.{List, [], add-one, ap, arith, get_or, length, refl, sym, take, take-suc, take_all, ℕ, ◌++◌, ◌+◌, ◌<◌, ◌∙◌}
+use Rattle.std.proofs.Common.{◌∷◌, ◌≡◌}
 use Rattle.splice.specs.Put.{Put}
 use Rattle.splice.proofs.Laws.Put.{put_as, put_nothing, put_then}
 use Rattle.decimals.specs.Decimal.{spaced}

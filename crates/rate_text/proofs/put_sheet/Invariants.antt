@@ -12,7 +12,7 @@ pub record Numbers (out₀ : List ℕ) (at : ℕ) (xs out : List ℕ) (end i : �
   pub numbers : PutWithin out₀ at (spaced (take i xs)) out end (at + 21 * i)
 
 abbrev pub invariant-loop-i : goal.invariant-loop-i
-invariant-loop-i l =     Numbers l.initial.out l.at l.xs l.out l.end l.i
+invariant-loop-i l = Numbers l.initial.out l.at l.xs l.out l.end l.i
 
 abbrev pub decreases-loop-i : goal.decreases-loop-i
 decreases-loop-i l = 13 - l.i

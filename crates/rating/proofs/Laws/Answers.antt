@@ -191,16 +191,17 @@ pub record Answered : Type 0 where
       }
 
 pub answered : Answered
-unfolding rated sheet_of refused loaded judged field_refusal arrangement_refused conductor_refused limit_refused conductor_limits sheath_limits
-    thermal_limits stray_refused geometry_refused heat_refused metal_refused arrangement_of sl_type armour_limits alternating skin_refused
-    eddy_refused dielectric_refused current_refused R' Rs RA B zs zp ys G yp R X XLow Wd rise_of N E current_of conductor_metal
-    temperature_factor resistance reactance reactance_low skin_reactance skin_ratio skin_ratio_squared factor skin_factor spacing_ratio
-    proximity_h proximity_g proximity_factor ac_resistance log_low log_high thirteen_terms series first_power doubled octaves doublings
-    spacing_log_high spacing_log_low sheath_reactance sheath_reactance_low bond_ratio bond_ratio_squared circulating_loss three_halves sl_loss
-    armour_ratio armour_ratio_squared reduced_armour_resistance unscreened_loss screening_ratio_squared screened_loss armour_loss dielectric_loss
-    dielectric_resistance dielectric_rise permitted_rise current_rise unit_rise rating root pi_low pi_high ln2_low ln2_high ln2_third_high tera up
-    down axis_limits no_armour armourless both_ends one_point eddy_ratio eddy_ratio_squared eddy_factor eddy_spacing eddy_loss common_sheath axis_ratio
-    axis_ratio_squared common_ratio common_ratio_squared is_first first_formula second_formula common_loss
+unfolding rated sheet_of refused loaded judged field_refusal arrangement_refused conductor_refused limit_refused conductor_limits
+    sheath_limits thermal_limits stray_refused geometry_refused heat_refused metal_refused arrangement_of sl_type armour_limits
+    alternating skin_refused eddy_refused dielectric_refused current_refused R' Rs RA B zs zp ys G yp R X XLow Wd rise_of N E current_of
+    conductor_metal temperature_factor resistance reactance reactance_low skin_reactance skin_ratio skin_ratio_squared factor skin_factor
+    spacing_ratio proximity_h proximity_g proximity_factor ac_resistance log_low log_high thirteen_terms series first_power doubled
+    octaves doublings spacing_log_high spacing_log_low sheath_reactance sheath_reactance_low bond_ratio bond_ratio_squared
+    circulating_loss three_halves sl_loss armour_ratio armour_ratio_squared reduced_armour_resistance unscreened_loss
+    screening_ratio_squared screened_loss armour_loss dielectric_loss dielectric_resistance dielectric_rise permitted_rise current_rise
+    unit_rise rating root pi_low pi_high ln2_low ln2_high ln2_third_high tera up down axis_limits no_armour armourless both_ends one_point
+    eddy_ratio eddy_ratio_squared eddy_factor eddy_spacing eddy_loss common_sheath axis_ratio axis_ratio_squared common_ratio
+    common_ratio_squared is_first first_formula second_formula common_loss
 answered =
     record {
       both_ends_1 = rate_of_is trefoil;

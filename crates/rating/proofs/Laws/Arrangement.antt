@@ -6,7 +6,8 @@ use Rattle.exact.specs.Fraction.{Fraction, whole}
 use Rattle.exact.proofs.Laws.Fraction.{whole_mono, ≤F_refl}
 use Rattle.exact.specs.Error.{Within}
 use Rattle.exact.proofs.Laws.Error.{within_refl, within_weaken}
-use Rattle.formulas.specs.Laws.Bounds.{least_conductor_resistance, most_ac_resistance, most_armour_loss, most_dielectric_rise, most_sheath_loss}
+use Rattle.formulas.specs.Laws.Bounds.{least_conductor_resistance, most_ac_resistance, most_armour_loss, most_dielectric_rise}
+use Rattle.formulas.specs.Laws.Bounds.{most_sheath_loss}
 use Rattle.formulas.specs.Laws.Ranges.{In}
 use Rattle.formulas.proofs.Laws.Ranges.{dielectric_rise_most}
 use Rattle.fields.specs.Fields as Field

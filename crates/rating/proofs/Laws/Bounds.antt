@@ -55,7 +55,8 @@ unfolding judged loaded
 judged_bounded x =
     or_refused_bounded (skin_refused (zs x) (zp x)) 8 (lit≤ tt)
     (or_refused_bounded ((own x).eddies && eddy_refused (B x) (Rs x)) 9 (lit≤ tt)
-    (or_refused_bounded (dielectric_refused (numbers_of x).dd (rise_of x)) 10 (lit≤ tt) (unless_too_high x (current_refused (current_of x)) refl)))
+    (or_refused_bounded (dielectric_refused (numbers_of x).dd (rise_of x)) 10 (lit≤ tt)
+    (unless_too_high x (current_refused (current_of x)) refl)))
 
 after_fields : (x : List ℕ) (none_given : Bool) → Bounded (cond none_given (judged x) (refused (field_refusal x)))
 after_fields x true = judged_bounded x

@@ -92,7 +92,8 @@ abbrev chosen_3 : Chosen
 chosen_3 = without_spacing (606135803570 over 10 ^ 12)
 
 allowed_3 : Allowed (own trefoil_one_point) trefoil_one_point chosen_3
-unfolding arrangement_of one_point log_low log_high thirteen_terms series first_power doubled octaves doublings ln2_low ln2_high tera up down
+unfolding arrangement_of one_point log_low log_high thirteen_terms series first_power doubled octaves doublings ln2_low ln2_high tera up
+    down
 allowed_3 = without_spacing_allowed trefoil_one_point _ refl (record { at_least = closed≤ tt; at_most = closed≤ tt })
 
 under_3 : exact_rise trefoil_one_point chosen_3 (whole 1445739) ≤F whole (permitted_of trefoil_one_point)
@@ -104,7 +105,8 @@ abbrev pub chosen_6 : Chosen
 chosen_6 = without_spacing (443644018850 over 10 ^ 12)
 
 pub allowed_6 : Allowed (own three_cores) three_cores chosen_6
-unfolding arrangement_of common_sheath log_low log_high thirteen_terms series first_power doubled octaves doublings ln2_low ln2_high tera up down
+unfolding arrangement_of common_sheath log_low log_high thirteen_terms series first_power doubled octaves doublings ln2_low ln2_high tera
+    up down
 allowed_6 = without_spacing_allowed three_cores _ refl (record { at_least = closed≤ tt; at_most = closed≤ tt })
 
 pub answer_6 : ((rate_of three_cores).number ≡ 0) × ((rate_of three_cores).rating ≡ 469955)

@@ -1,5 +1,6 @@
 -- θc - θa as a whole number: refusal 6 keeps it at 500 or above, and the limits at 29000 or below. Assumes nothing.
-use Rattle.std.specs.Prelude.{◌≡◌, refl, Bool, true, false, cond, List, ℕ, zero, suc, ◌-◌, ◌≤◌, ltb, ℤ, pos, negsuc, neg_ℤ, ◌-ℤ◌, nat_abs, ◌≤ℤ◌}
+use Rattle.std.specs.Prelude.{◌≡◌, refl, Bool, true, false, cond, List, ℕ, zero, suc, ◌-◌, ◌≤◌, ltb, ℤ, pos, negsuc, neg_ℤ, ◌-ℤ◌}
+use Rattle.std.specs.Prelude.{nat_abs, ◌≤ℤ◌}
 use Rattle.std.proofs.Common.{arith, leb→le}
 use Rattle.std.proofs.Math.IntN.{sub_ℕ}
 use Rattle.fields.specs.Fields as Field

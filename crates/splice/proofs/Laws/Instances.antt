@@ -4,7 +4,8 @@ use Rattle.std.proofs.Common.{lit<, lit≤}
 use Rattle.std.proofs.lemmas.List.Edits.{sets}
 use Rattle.splice.specs.Splice.{splice}
 use Rattle.splice.specs.Put.{Put, PutWithin}
-use Rattle.splice.proofs.Laws.Splice.{splice_length, splice_before, splice_past, splice_one, splice_after, splice_again, splice_over, splice_sets, copy_one}
+use Rattle.splice.proofs.Laws.Splice.{splice_length, splice_before, splice_past, splice_one, splice_after, splice_again, splice_over}
+use Rattle.splice.proofs.Laws.Splice.{splice_sets, copy_one}
 use Rattle.splice.proofs.Laws.Put.{put_nothing, put_as, put_within_as, put_then}
 
 abbrev six : List ℕ

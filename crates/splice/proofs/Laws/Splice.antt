@@ -1,7 +1,8 @@
 -- Laws of `splice`: its length, what stands before and after the part, a second part after the first, and a part put anew.
 -- Assumes nothing.
 use Rattle.std.specs.Prelude.{List, [], ◌∷◌, ◌++◌, ◌≡◌, ℕ, ◌+◌, ◌-◌, ◌≤◌, ◌<◌, length, get_or, take, drop, set}
-use Rattle.std.proofs.Common.{append_assoc, append-nil, sym, ap, ap₂, ◌∙◌, add-zero, add-one, arith, length-append, length-drop, take-append-drop, length-take-le, take_at, drop-drop, take-suc, take-suc-set}
+use Rattle.std.proofs.Common.{append_assoc, append-nil, sym, ap, ap₂, ◌∙◌, add-zero, add-one, arith, length-append, length-drop}
+use Rattle.std.proofs.Common.{take-append-drop, length-take-le, take_at, drop-drop, take-suc, take-suc-set}
 use Rattle.std.proofs.lemmas.List.Edits.{sets, sets-eq}
 use Rattle.std.proofs.Math.Seq.{drop-append-add, append_snoc}
 use Rattle.std.proofs.lemmas.List.{set_split}

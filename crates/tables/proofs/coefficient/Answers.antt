@@ -5,5 +5,5 @@ use Rattle.tables.specs.Laws.Agree.{coefficient_agrees}
 use Rattle.tables.proofs.coefficient.Goals as goal
 
 pub returns : goal.returns
-returns c =     let rows = c.all_coefficients in
+returns c = let rows = c.all_coefficients in
     eqb-true _ _ (at_code coefficient_agrees rows.result _ rows.ensures (search rules) c.requires)

@@ -5,5 +5,5 @@ use Rattle.tables.specs.Laws.Agree.{factors_agree, agreeing_factors}
 use Rattle.tables.proofs.factors_of.Goals as goal
 
 pub returns : goal.returns
-returns c =     let rows = c.all_factors in
+returns c = let rows = c.all_factors in
     agreeing_factors (at_code factors_agree rows.result _ rows.ensures (search rules) c.requires)

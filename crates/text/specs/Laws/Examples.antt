@@ -34,6 +34,6 @@ ex_lines : (read_line_of 2 (32 ∷ 49 ∷ 9 ∷ 32 ∷ 9 ∷ 50 ∷ 32 ∷ []) �
     × (read_line_of 2 (32 ∷ 9 ∷ 13 ∷ []) ≡ passed_over)
     × (read_line_of 2 (35 ∷ 49 ∷ 32 ∷ 50 ∷ []) ≡ passed_over)
     × (read_line_of 2 (32 ∷ 35 ∷ 49 ∷ 32 ∷ 50 ∷ []) ≡ unreadable)
-unfolding read_line_of says text_length fields field before word drop_word drop_blanks run is_blank is_ink
-    read_number read_digits value value_from every is_digit is_empty
+unfolding read_line_of says text_length fields field before word drop_word drop_blanks run is_blank is_ink read_number read_digits value
+    value_from every is_digit is_empty
 ex_lines = (refl, refl, refl, refl, refl, refl, refl, refl, refl)

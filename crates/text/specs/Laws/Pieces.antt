@@ -1,7 +1,8 @@
 -- Laws of `piece`, a part of a chunk or of a line between two places: an empty one, one more byte, two that meet, the length, and what
 -- follows. Assumes nothing.
 use Rattle.std.specs.Prelude.{List, [], ◌∷◌, ◌++◌, ◌≡◌, ℕ, suc, ◌+◌, ◌-◌, ◌≤◌, ◌<◌, length, get_or, take, drop}
-use Rattle.std.proofs.Common.{sym, ap, ◌∙◌, arith, length-drop, take-append-drop, length-take-le, take-suc, take-add, get_or-drop, drop-drop}
+use Rattle.std.proofs.Common.{sym, ap, ◌∙◌, arith, length-drop, take-append-drop, length-take-le, take-suc, take-add, get_or-drop}
+use Rattle.std.proofs.Common.{drop-drop}
 use Rattle.std.proofs.Math.Nat.{sub_self}
 use Rattle.text.specs.Gather.{piece}
 

@@ -64,7 +64,8 @@ read_back x xs h k =
 -- ---- the theorems
 
 -- as many numbers as a line has room for, at eleven bytes each
-pub round_trip : (xs : List ℕ) → 0 < length xs → length xs * 11 ≤ longest_line → Below32 xs → read_line_of (length xs) (written xs) ≡ a_case xs
+pub round_trip : (xs : List ℕ) → 0 < length xs → length xs * 11 ≤ longest_line → Below32 xs →
+    read_line_of (length xs) (written xs) ≡ a_case xs
 unfolding written
 round_trip [] m k h = absurd (omega arith)
 round_trip (x ∷ xs) m k h = read_back x xs h k

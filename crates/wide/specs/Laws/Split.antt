@@ -1,6 +1,7 @@
 -- What a division's answer says of the two roundings. Assumes nothing.
 use Rattle.std.specs.Prelude.{◌≡◌, ℕ, zero, suc, ◌+◌, ◌*◌, ◌/◌, ◌%◌, ◌≤◌, ◌<◌}
-use Rattle.std.proofs.Common.{sym, ap, ◌∙◌, suc-ne-zero, mul-le-mul_left, mul-le-mul_right, lt_of_mul-lt-mul_right, div-add-mod', mod-lt, arith, eq-eqb, ne_eqb}
+use Rattle.std.proofs.Common.{sym, ap, ◌∙◌, suc-ne-zero, mul-le-mul_left, mul-le-mul_right, lt_of_mul-lt-mul_right, div-add-mod'}
+use Rattle.std.proofs.Common.{mod-lt, arith, eq-eqb, ne_eqb}
 use Rattle.exact.specs.Rounding.{up, down}
 use Rattle.exact.proofs.Laws.Rounding.{up_only, down_only, down_close}
 use Rattle.wide.specs.Split.{Split, upward}

@@ -1,6 +1,7 @@
 -- `book::append::append` meets its contract: the trailer's refusals, 25, 24, and else the record and the new trailer are written.
 -- Assumes nothing.
-use Rattle.std.proofs.Common.{Bool, List, ap, arith, cond, false, le-ltb, leb, leb-false, length, lt-ltb, ltb, ltb-false, ltb-true, refl, suc-ne-zero, sym, true, ℕ, ◌++◌, ◌+◌, ◌-◌, ◌<◌, ◌∙◌, ◌≡◌, ◌≤◌}
+use Rattle.std.proofs.Common.{Bool, List, ap, arith, cond, false, le-ltb, leb, leb-false, length, lt-ltb, ltb, ltb-false, ltb-true}
+use Rattle.std.proofs.Common.{refl, suc-ne-zero, sym, true, ℕ, ◌++◌, ◌+◌, ◌-◌, ◌<◌, ◌∙◌, ◌≡◌, ◌≤◌}
 use Rattle.std.proofs.lemmas.Bool.{lt-leb}
 use Rattle.splice.specs.Splice.{splice}
 use Rattle.book_laws.specs.Layout.{rbk1, record_length, trailer_length}

@@ -1,6 +1,7 @@
 -- `book_bytes::record::fields_of` meets its contract. The invariant: the first i fields are the first i numbers of the case. The measure is
 -- how many are left. Assumes nothing.
-use Rattle.std.proofs.Common.{List, [], ap, append_assoc, arith, length, length-set, refl, set, sym, take, take-suc-set, take_all, ℕ, ◌++◌, ◌+◌, ◌∙◌, ◌∷◌, ◌≡◌}
+use Rattle.std.proofs.Common.{List, [], ap, append_assoc, arith, length, length-set, refl, set, sym, take, take-suc-set, take_all, ℕ}
+use Rattle.std.proofs.Common.{◌++◌, ◌+◌, ◌∙◌, ◌∷◌, ◌≡◌}
 use Rattle.splice.proofs.Laws.Splice.{copy_one}
 use Rattle.fields.specs.Fields.{width}
 use Rattle.book_laws.specs.Layout.{rbk1, record_fields}

@@ -33,8 +33,7 @@ loop-i-init c = (omega arith, refl, sym (splice_nothing _ _))
 
 pub loop-i-preserved : goal.loop-i-preserved
 loop-i-preserved c =
-    let at_loop = c.loop-i in
-    (
+    let at_loop = c.loop-i in (
       omega arith,
       omega arith,
       one_more _ _ c.args.fields at_loop.i (omega (arith, c.requires)) (omega arith) at_loop.invariant.2 c.put_word.ensures,

@@ -7,7 +7,9 @@ use Rattle.book_laws.specs.Bytes.{words_bytes}
 use Rattle.book_bytes.proofs.record.put_fields.Given as goal
 
 abbrev pub invariant-loop-i : goal.invariant-loop-i
-invariant-loop-i l =     (l.i ≤ record_fields rbk1) × (length l.buffer ≡ length l.initial.buffer) × (l.buffer ≡ splice l.initial.buffer l.at (words_bytes (take l.i l.fields)))
+invariant-loop-i l =
+    (l.i ≤ record_fields rbk1) × (length l.buffer ≡ length l.initial.buffer) ×
+    (l.buffer ≡ splice l.initial.buffer l.at (words_bytes (take l.i l.fields)))
 
 abbrev pub decreases-loop-i : goal.decreases-loop-i
 decreases-loop-i l = record_fields rbk1 - l.i

@@ -1,6 +1,7 @@
 -- `book_bytes::record::read_words` meets its contract. The invariant: the first i numbers of `words` are the first i fields. The measure is
 -- how many are left. Assumes nothing.
-use Rattle.std.proofs.Common.{List, [], add-one, ap, arith, length, length-set, refl, set, sym, take, take-suc-set, take_all, ℕ, ◌*◌, ◌++◌, ◌+◌, ◌<◌, ◌∙◌, ◌∷◌, ◌≡◌}
+use Rattle.std.proofs.Common.{List, [], add-one, ap, arith, length, length-set, refl, set, sym, take, take-suc-set, take_all, ℕ, ◌*◌}
+use Rattle.std.proofs.Common.{◌++◌, ◌+◌, ◌<◌, ◌∙◌, ◌∷◌, ◌≡◌}
 use Rattle.book_laws.specs.Bytes.{word_at, words_at}
 use Rattle.book_laws.proofs.Laws.Bytes.{words_at_next}
 use Rattle.book_bytes.proofs.record.read_words.Goals as goal

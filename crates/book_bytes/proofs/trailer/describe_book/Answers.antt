@@ -10,7 +10,9 @@ returns-then-buffer-used c = c.undescribed.ensures ∙ sym (simp (lt-ltb _ _ c.i
 
 pub returns-then-used-lt-TRAILER_LENGTH : goal.returns-then-used-lt-TRAILER_LENGTH
 unfolding describe_in
-returns-then-used-lt-TRAILER_LENGTH c = c.undescribed-then-used-lt-TRAILER_LENGTH.ensures ∙ sym (simp (le-ltb _ _ c.if-buffer-used.false, lt-ltb _ _ c.if-used-lt-TRAILER_LENGTH.true))
+returns-then-used-lt-TRAILER_LENGTH c =
+    c.undescribed-then-used-lt-TRAILER_LENGTH.ensures
+    ∙ sym (simp (le-ltb _ _ c.if-buffer-used.false, lt-ltb _ _ c.if-used-lt-TRAILER_LENGTH.true))
 
 pub returns : goal.returns
 unfolding describe_in

@@ -7,10 +7,10 @@ use Rattle.text.specs.Laws.Leading.{number_in}
 use Rattle.line_in_place.proofs.number.negative_at.Goals as goal
 
 pub overflow_sub-result : goal.overflow_sub-result
-overflow_sub-result c =     omega (arith, (number_in _ c.leading_digits-digits.ensures c.is_number.ensures c.if-is_number.true).fits)
+overflow_sub-result c = omega (arith, (number_in _ c.leading_digits-digits.ensures c.is_number.ensures c.if-is_number.true).fits)
 
 pub returns-then-is_number : goal.returns-then-is_number
-returns-then-is_number c found =     let number = number_in _ c.leading_digits-digits.ensures c.is_number.ensures c.if-is_number.true in
+returns-then-is_number c found = let number = number_in _ c.leading_digits-digits.ensures c.is_number.ensures c.if-is_number.true in
     with_sign c.requires c.if-s-at-eq45.true number
 
 pub returns : goal.returns

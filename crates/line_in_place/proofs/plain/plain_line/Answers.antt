@@ -1,7 +1,8 @@
 -- `line_in_place::plain::plain_line` meets its contract. The invariant: the numbers read so far are a row, and each took twelve bytes at
 -- most. The measure is the count of numbers that are left before the last.
 -- Assumes nothing.
-use Rattle.std.proofs.Common.{Bool, List, [], add-one, ap, arith, cond, eqb, false, get_or, le_refl, length, length-set, lit≤, refl, set, subst, suc, sym, take, take-suc-set, take_all, true, ℕ, ◌++◌, ◌+◌, ◌<◌, ◌∙◌, ◌∷◌, ◌≡◌, ◌≤◌}
+use Rattle.std.proofs.Common.{Bool, List, [], add-one, ap, arith, cond, eqb, false, get_or, le_refl, length, length-set, lit≤, refl}
+use Rattle.std.proofs.Common.{set, subst, suc, sym, take, take-suc-set, take_all, true, ℕ, ◌++◌, ◌+◌, ◌<◌, ◌∙◌, ◌∷◌, ◌≡◌, ◌≤◌}
 use Rattle.bools.proofs.Laws.Tests.{other_outcome}
 use Rattle.line_in_place.specs.NumberAt.{NumberAt}
 use Rattle.line_in_place.specs.Plain.{PlainLine, longest_plain}
@@ -52,38 +53,38 @@ module _ {n : ℕ} {s : List ℕ} {from : ℕ} {l : List ℕ} {at i : ℕ} (on :
         (row_ends on.row number (omega (arith, on.near, number.near)) end end_inside feed e))
 
 pub loop-i-init : goal.loop-i-init
-loop-i-init c =     record {
-      space = c.has_room.ensures c.if-not-has_room.false;
-      count = omega arith;
-      near = omega arith;
-      room = refl;
-      row = row_none _ _;
-    }
+loop-i-init c = record {
+  space = c.has_room.ensures c.if-not-has_room.false;
+  count = omega arith;
+  near = omega arith;
+  room = refl;
+  row = row_none _ _;
+}
 
 pub number_at-number-requires : goal.number_at-number-requires
 unfolding longest_plain
-number_at-number-requires c =     let on = c.loop-i.invariant in
+number_at-number-requires c = let on = c.loop-i.invariant in
     omega (arith, on.space, on.near)
 
 pub overflow_add-at : goal.overflow_add-at
-overflow_add-at c =     omega (arith, (c.number_at-number.ensures (not-false _ c.if-not-number.false)).inside)
+overflow_add-at c = omega (arith, (c.number_at-number.ensures (not-false _ c.if-not-number.false)).inside)
 
 pub loop-i-preserved : goal.loop-i-preserved
-loop-i-preserved c =     let number = c.number_at-number.ensures (not-false _ c.if-not-number.false) in
+loop-i-preserved c = let number = c.number_at-number.ensures (not-false _ c.if-not-number.false) in
     let blank = sym c.is_blank.ensures ∙ c.if-not-is_blank.false in
     next c.loop-i.invariant number c.loop-i-test.true blank
 
 pub number_at-last-requires : goal.number_at-last-requires
 unfolding longest_plain
-number_at-last-requires c =     let on = c.loop-i.invariant in
+number_at-last-requires c = let on = c.loop-i.invariant in
     omega (arith, on.space, on.near, on.count)
 
 pub bounds-s-end : goal.bounds-s-end
-bounds-s-end c =     let number = c.number_at-last.ensures (not-false _ c.if-not-last.false) in
+bounds-s-end c = let number = c.number_at-last.ensures (not-false _ c.if-not-last.false) in
     end_inside c.loop-i.invariant number _ c.past_return-end.ensures
 
 pub returns : goal.returns
-returns c found =     let number = c.number_at-last.ensures (not-false _ c.if-not-last.false) in
+returns c found = let number = c.number_at-last.ensures (not-false _ c.if-not-last.false) in
     done c.loop-i.invariant number _ c.past_return-end.ensures c.loop-i-test.false (lit≤ tt) c.if-s-end-ne10.false
 
 pub returns-then-not-has_room : goal.returns-then-not-has_room

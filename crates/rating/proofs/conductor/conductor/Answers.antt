@@ -50,7 +50,11 @@ pub proximity_factor-yp-requires : goal.proximity_factor-yp-requires
 proximity_factor-yp-requires c =
     let fit = c.requires.fit in
     record {
-      u_most = omega (arith, u_is (goal.at.proximity_factor-yp-requires c).After-spacing_ratio-u, u_most fit.sound fit.skin fit.proximity (spaced fit));
+      u_most = omega (
+        arith,
+        u_is (goal.at.proximity_factor-yp-requires c).After-spacing_ratio-u,
+        u_most fit.sound fit.skin fit.proximity (spaced fit),
+      );
       factor_most = omega (arith, g_is c, G_most fit.sound fit.skin fit.proximity);
     }
 

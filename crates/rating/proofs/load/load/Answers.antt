@@ -44,11 +44,13 @@ unfolding rise_of
 overflow_mul-permitted c = omega (arith, c.rise-permitted.ensures, rise_range c.requires.passes.fit.sound)
 
 pub overflow_mul-dd : goal.overflow_mul-dd
-overflow_mul-dd c = omega (arith, dd_is (goal.at.overflow_mul-dd c).After-dielectric_rise_of-dd, (numbers_in_range c.requires.passes.fit).dd)
+overflow_mul-dd c =
+    omega (arith, dd_is (goal.at.overflow_mul-dd c).After-dielectric_rise_of-dd, (numbers_in_range c.requires.passes.fit).dd)
 
 pub refuse-requires : goal.refuse-requires
 unfolding loaded
-refuse-requires c = c.requires.passes.answer ∙ simp (hot (goal.at.refuse-requires c).After-rise-permitted ∙ lt-ltb _ _ c.if-permitted-dd.true)
+refuse-requires c =
+    c.requires.passes.answer ∙ simp (hot (goal.at.refuse-requires c).After-rise-permitted ∙ lt-ltb _ _ c.if-permitted-dd.true)
 
 pub unit_rise_of-e-requires : goal.unit_rise_of-e-requires
 unit_rise_of-e-requires c = c.requires
@@ -67,7 +69,8 @@ pub refuse-requires-then-i-gt-MOST_CURRENT : goal.refuse-requires-then-i-gt-MOST
 unfolding loaded current_refused
 refuse-requires-then-i-gt-MOST_CURRENT c =
     let over = ap (ltb 5000000) (sym c.current_of-i.ensures) ∙ lt-ltb _ _ c.if-i-gt-MOST_CURRENT.true in
-    c.requires.passes.answer ∙ simp (hot (goal.at.refuse-requires-then-i-gt-MOST_CURRENT c).After-rise-permitted ∙ le-ltb _ _ c.if-permitted-dd.false, over)
+    c.requires.passes.answer
+    ∙ simp (hot (goal.at.refuse-requires-then-i-gt-MOST_CURRENT c).After-rise-permitted ∙ le-ltb _ _ c.if-permitted-dd.false, over)
 
 pub returns : goal.returns
 unfolding loaded current_refused rated sheet_of alternating

@@ -21,7 +21,7 @@ has : (c : Joined-arrangement) → Has c.args.x c.match-arrangement.kind
 unfolding arrangement_of
 has c =
     elim c.match-arrangement.branch [
-      in-1 w ↦ picked w.kind-is (ap arrangement_of w.in-1.is)
+      | in-1 w ↦ picked w.kind-is (ap arrangement_of w.in-1.is)
       | in-2 w ↦ picked w.kind-is (ap arrangement_of w.in-2.is)
       | in-3 w ↦ picked w.kind-is (record { own_is = ap arrangement_of w.in-3.is; j_most = lit≤ tt })
       | in-4 w ↦ picked w.kind-is (record { own_is = ap arrangement_of w.in-4.is; j_most = lit≤ tt })

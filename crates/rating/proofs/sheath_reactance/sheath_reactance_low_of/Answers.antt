@@ -35,7 +35,11 @@ pub sheath_reactance_low-requires : goal.sheath_reactance_low-requires
 sheath_reactance_low-requires c =
     let pre = c.requires in
     record {
-      b_most = omega (arith, b_is (goal.at.sheath_reactance_low-requires c).After-reactance_low, reactance_low_most pre.sound.frequency.most);
+      b_most = omega (
+        arith,
+        b_is (goal.at.sheath_reactance_low-requires c).After-reactance_low,
+        reactance_low_most pre.sound.frequency.most,
+      );
       l_most = omega (arith, log_is c, spacing_log_low_most pre.sound pre.apart);
     }
 

@@ -1,6 +1,7 @@
 -- `sheafdawn::copy::put_sheet` meets its contract. The invariant: the first i numbers stand after the first place. The measure is how
 -- many are left. Assumes nothing.
-use Rattle.std.proofs.Common.{List, [], add-one, ap, arith, get_or, length, length-set, length-take-le, set, sym, take, take-suc, take_all, ℕ, ◌+◌, ◌<◌, ◌∙◌, ◌∷◌, ◌≡◌, ◌≤◌}
+use Rattle.std.proofs.Common.{List, [], add-one, ap, arith, get_or, length, length-set, length-take-le, set, sym, take, take-suc}
+use Rattle.std.proofs.Common.{take_all, ℕ, ◌+◌, ◌<◌, ◌∙◌, ◌∷◌, ◌≡◌, ◌≤◌}
 use Rattle.splice.specs.Splice.{splice}
 use Rattle.splice.proofs.Laws.Splice.{splice_nothing, splice_one, splice_after}
 use Rattle.sheafdawn.proofs.copy.put_sheet.Goals as goal
@@ -21,8 +22,7 @@ loop-i-init c = (omega arith, omega arith, sym (splice_nothing _ _))
 
 pub loop-i-preserved : goal.loop-i-preserved
 loop-i-preserved c =
-    let at_loop = c.loop-i in
-    (
+    let at_loop = c.loop-i in (
       omega arith,
       length-set at_loop.out _ _ ∙ at_loop.invariant.1,
       one_more _ c.args.sheet at_loop.i (omega (arith, c.requires)) (omega arith) (omega arith) at_loop.invariant.2,

@@ -21,7 +21,7 @@ y2_most c =
 
 pub returns : goal.returns
 unfolding reduced_armour_resistance armour_ratio_squared armour_ratio tera
-returns c =     let ra = c.args.ra in
+returns c = let ra = c.args.ra in
     let y2 = c.mul_div_down_trillion-y2.ensures ∙ ap (λ y. down (y * y) trillion) c.mul_div_down-y.ensures in
     c.mul_div_up.ensures ∙ ap (λ y2. up (ra * trillion) (trillion + y2)) y2
 
@@ -29,7 +29,8 @@ pub mul_div_down-y-requires : goal.mul_div_down-y-requires
 mul_div_down-y-requires c = quotient_down_fits most_armour_ratio (omega arith) (omega arith) tt
 
 pub mul_div_down_trillion-y2-requires : goal.mul_div_down_trillion-y2-requires
-mul_div_down_trillion-y2-requires c = square_fits down_bounded most_armour_ratio most_armour_ratio_squared c.mul_div_down-y.ensures (omega arith) (omega arith) tt tt
+mul_div_down_trillion-y2-requires c =
+    square_fits down_bounded most_armour_ratio most_armour_ratio_squared c.mul_div_down-y.ensures (omega arith) (omega arith) tt tt
 
 pub overflow_add-y2 : goal.overflow_add-y2
 overflow_add-y2 c = omega (arith, y2_most c)

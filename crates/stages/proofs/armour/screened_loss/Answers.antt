@@ -22,12 +22,13 @@ share_is c =
     ∙ ap (λ v2. up (trillion * trillion) (trillion + v2)) c.screening_ratio_squared-v2.ensures
 
 pub mul_div_up_trillion-requires : goal.mul_div_up_trillion-requires
-mul_div_up_trillion-requires c =     let share≤ : c.mul_div_up.result ≤ trillion = omega (arith, share_is c, screening_most (screening_ratio_squared c.args.x c.args.rs)) in
+mul_div_up_trillion-requires c =
+    let share≤ : c.mul_div_up.result ≤ trillion = omega (arith, share_is c, screening_most (screening_ratio_squared c.args.x c.args.rs)) in
     fits_up most_armour_loss (lit< tt) (mul-le-mul c.requires.w_most share≤) tt
 
 pub returns : goal.returns
 unfolding screened_loss tera
-returns c =     let w = c.args.w in
+returns c = let w = c.args.w in
     c.mul_div_up_trillion.ensures ∙ ap (λ share. up (w * share) trillion) (share_is (goal.at.returns c).After-mul_div_up)
 
 pub overflow_add-v2 : goal.overflow_add-v2

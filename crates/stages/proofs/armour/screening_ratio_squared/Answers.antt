@@ -15,7 +15,8 @@ mul_div_down-v-requires c = quotient_down_fits most_bond_ratio (omega arith) (om
 
 pub mul_div_down_trillion-requires : goal.mul_div_down_trillion-requires
 unfolding screening_ratio_squared tera
-mul_div_down_trillion-requires c = square_fits down_bounded most_bond_ratio most_bond_ratio_squared c.mul_div_down-v.ensures (omega arith) (omega arith) tt tt
+mul_div_down_trillion-requires c =
+    square_fits down_bounded most_bond_ratio most_bond_ratio_squared c.mul_div_down-v.ensures (omega arith) (omega arith) tt tt
 
 pub returns : goal.returns
 unfolding screening_ratio_squared tera

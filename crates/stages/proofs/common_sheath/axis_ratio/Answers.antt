@@ -11,7 +11,8 @@ c_squared : (c : Start) → c.args.c * c.args.c ≤ 625000000
 c_squared c = let c≤ : c.args.c ≤ 25000 = omega (arith, c.requires.d_most, c.requires.c_most) in mul-le-mul c≤ c≤
 
 pub mul_div_up-requires : goal.mul_div_up-requires
-mul_div_up-requires c =     quotient_up_fits trillion (mul-pos c.requires.d>0 c.requires.d>0) (omega (arith, mul-le-mul c.requires.c_most c.requires.c_most)) tt
+mul_div_up-requires c =
+    quotient_up_fits trillion (mul-pos c.requires.d>0 c.requires.d>0) (omega (arith, mul-le-mul c.requires.c_most c.requires.c_most)) tt
 
 pub returns : goal.returns
 unfolding axis_ratio tera

@@ -15,7 +15,8 @@ mul_div_down-y-requires c = quotient_down_fits most_common_ratio (omega arith) (
 
 pub mul_div_down_trillion-requires : goal.mul_div_down_trillion-requires
 unfolding common_ratio_squared common_ratio tera
-mul_div_down_trillion-requires c = square_fits down_bounded most_common_ratio most_common_ratio_squared c.mul_div_down-y.ensures (omega arith) (omega arith) tt tt
+mul_div_down_trillion-requires c =
+    square_fits down_bounded most_common_ratio most_common_ratio_squared c.mul_div_down-y.ensures (omega arith) (omega arith) tt tt
 
 pub returns : goal.returns
 unfolding common_ratio_squared common_ratio tera

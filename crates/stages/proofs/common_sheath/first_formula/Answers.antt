@@ -40,24 +40,30 @@ product_most c =
 
 pub returns : goal.returns
 unfolding first_formula tera
-returns c =     let rs = c.args.rs in
+returns c = let rs = c.args.rs in
     let b = c.args.ratio in
     let y2 = c.common_ratio_squared-y2.ensures in
     let first = c.term.ensures ∙ (λ i. up (b * trillion) (trillion + y2 i)) in
-    let second = c.term-2.ensures ∙ (λ i. up (b2_is (goal.at.returns c).After-mul_div_up_trillion-ratio2 i * trillion) (trillion + 4 * y2 i)) in
+    let second = c.term-2.ensures
+    ∙ (λ i. up (b2_is (goal.at.returns c).After-mul_div_up_trillion-ratio2 i * trillion) (trillion + 4 * y2 i)) in
     c.mul_div_up_trillion.ensures ∙ (λ i. up (3 * rs * (first i + second i)) trillion)
 
 pub mul_div_up_trillion-ratio2-requires : goal.mul_div_up_trillion-ratio2-requires
 mul_div_up_trillion-ratio2-requires c = fits_up trillion (lit< tt) (mul-le-mul c.requires.ratio_most c.requires.ratio_most) tt
 
 pub term-requires : goal.term-requires
-term-requires c = record { part_most = c.requires.ratio_most; k_most = omega (arith, y2_most (goal.at.term-requires c).After-common_ratio_squared-y2) }
+term-requires c =
+    record { part_most = c.requires.ratio_most; k_most = omega (arith, y2_most (goal.at.term-requires c).After-common_ratio_squared-y2) }
 
 pub overflow_mul-y2 : goal.overflow_mul-y2
 overflow_mul-y2 c = omega (arith, y2_most (goal.at.overflow_mul-y2 c).After-common_ratio_squared-y2)
 
 pub term-requires-2 : goal.term-requires-2
-term-requires-2 c = record { part_most = b2_most (goal.at.term-requires-2 c).After-mul_div_up_trillion-ratio2; k_most = omega (arith, y2_most (goal.at.term-requires-2 c).After-common_ratio_squared-y2) }
+term-requires-2 c =
+    record {
+      part_most = b2_most (goal.at.term-requires-2 c).After-mul_div_up_trillion-ratio2;
+      k_most = omega (arith, y2_most (goal.at.term-requires-2 c).After-common_ratio_squared-y2);
+    }
 
 pub overflow_add-term : goal.overflow_add-term
 overflow_add-term c = omega (arith, terms_most c)

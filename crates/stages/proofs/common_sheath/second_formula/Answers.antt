@@ -20,7 +20,7 @@ numerator_fits b ratio b≤ ratio≤ =
     lt_of_le_of_lt (mul-le-mul (mul-le-mul four≤ b≤) ratio≤) (lit< tt)
 
 pub scaled-numerator-requires : goal.scaled-numerator-requires
-scaled-numerator-requires c =     subst⁻¹ (λ n. n * c.args.ratio < 2 ^ 128) c.product.ensures
+scaled-numerator-requires c = subst⁻¹ (λ n. n * c.args.ratio < 2 ^ 128) c.product.ensures
     (numerator_fits _ _ c.requires.b_most c.requires.ratio_most)
 
 S_is :
@@ -43,5 +43,5 @@ low_limb hi lo is small = omega arith
 
 pub returns : goal.returns
 unfolding value
-returns c =     let pre = c.requires in
+returns c = let pre = c.requires in
     low_limb _ _ (S_is c) (lt_of_le_of_lt (second_formula_most pre.rs_above pre.b_most pre.ratio_most) (lit< tt))

@@ -13,7 +13,8 @@ product_most : (c : Start) → c.args.e * (c.args.u0 * c.args.u0) * c.args.t ≤
 product_most c = mul-le-mul (voltage_most c) c.requires.t_most
 
 pub mul_div_up-requires : goal.mul_div_up-requires
-mul_div_up-requires c =     quotient_up_fits most_dielectric_loss (omega arith) (omega (arith, mul-le-mul (product_most c) c.requires.b_most)) tt
+mul_div_up-requires c =
+    quotient_up_fits most_dielectric_loss (omega arith) (omega (arith, mul-le-mul (product_most c) c.requires.b_most)) tt
 
 pub overflow_mul-u0 : goal.overflow_mul-u0
 unfolding dielectric_loss

@@ -15,7 +15,7 @@ outer_most c =
 
 pub mul_div_up-requires : goal.mul_div_up-requires
 unfolding dielectric_resistance
-mul_div_up-requires c =     let t = c.requires.thermal in
+mul_div_up-requires c = let t = c.requires.thermal in
     let t≤ = dielectric_resistance_most c.requires.n_most t.t1_most t.t2_most t.t3_most t.t4_most in
     quotient_up_fits most_dielectric_rise (lit< tt) (mul-le-mul c.requires.wd_most t≤) tt
 

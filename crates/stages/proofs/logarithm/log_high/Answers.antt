@@ -17,7 +17,9 @@ known c =
 
 pub returns : goal.returns
 unfolding log_high ln2_high
-returns c = ap₂ (λ terms count. terms + 1 + 693147180560 * count) (known (goal.at.returns c).After-thirteen_terms_up).terms_are (known (goal.at.returns c).After-thirteen_terms_up).count_is
+returns c =
+    ap₂ (λ terms count. terms + 1 + 693147180560 * count) (known (goal.at.returns c).After-thirteen_terms_up).terms_are
+    (known (goal.at.returns c).After-thirteen_terms_up).count_is
 
 pub mul_div_up-requires : goal.mul_div_up-requires
 mul_div_up-requires c = first_fits up_bounded c.requires c.reduce-z.ensures
@@ -32,4 +34,9 @@ pub overflow_mul-result : goal.overflow_mul-result
 overflow_mul-result c = omega (arith, (known (goal.at.overflow_mul-result c).After-thirteen_terms_up).count_most)
 
 pub overflow_add-result-2 : goal.overflow_add-result-2
-overflow_add-result-2 c = omega (arith, (known (goal.at.overflow_add-result-2 c).After-thirteen_terms_up).terms_most, (known (goal.at.overflow_add-result-2 c).After-thirteen_terms_up).count_most)
+overflow_add-result-2 c =
+    omega (
+      arith,
+      (known (goal.at.overflow_add-result-2 c).After-thirteen_terms_up).terms_most,
+      (known (goal.at.overflow_add-result-2 c).After-thirteen_terms_up).count_most,
+    )

@@ -17,7 +17,9 @@ known c =
 
 pub returns : goal.returns
 unfolding log_low ln2_low
-returns c = ap₂ (λ terms count. terms + 693147180559 * count) (known (goal.at.returns c).After-thirteen_terms_down).terms_are (known (goal.at.returns c).After-thirteen_terms_down).count_is
+returns c =
+    ap₂ (λ terms count. terms + 693147180559 * count) (known (goal.at.returns c).After-thirteen_terms_down).terms_are
+    (known (goal.at.returns c).After-thirteen_terms_down).count_is
 
 pub mul_div_down-requires : goal.mul_div_down-requires
 mul_div_down-requires c = first_fits down_bounded c.requires c.reduce-z.ensures
@@ -29,4 +31,9 @@ pub overflow_mul-result : goal.overflow_mul-result
 overflow_mul-result c = omega (arith, (known (goal.at.overflow_mul-result c).After-thirteen_terms_down).count_most)
 
 pub overflow_add-result : goal.overflow_add-result
-overflow_add-result c = omega (arith, (known (goal.at.overflow_add-result c).After-thirteen_terms_down).terms_most, (known (goal.at.overflow_add-result c).After-thirteen_terms_down).count_most)
+overflow_add-result c =
+    omega (
+      arith,
+      (known (goal.at.overflow_add-result c).After-thirteen_terms_down).terms_most,
+      (known (goal.at.overflow_add-result c).After-thirteen_terms_down).count_most,
+    )

@@ -27,7 +27,7 @@ loop-doubled-preserved c = again c.loop-doubled.invariant c.loop-doubled-test.tr
 
 pub returns : goal.returns
 unfolding doubled
-returns c =     let passed = c.loop-doubled.invariant in
+returns c = let passed = c.loop-doubled.invariant in
     let count = count_is c.requires.b>0 c.requires.b_most passed c.loop-doubled-test.false in
     let twice : _ ≡ doubled c.args.a c.args.b = passed.times ∙ ap (λ k. 2 ^ k * c.args.b) count in
     record { octaves_are = count; num_is = ap (λ d. c.args.a - d) twice; den_is = ap (λ d. c.args.a + d) twice }

@@ -9,7 +9,7 @@ pub returns-then-p-eq0 : goal.returns-then-p-eq0
 returns-then-p-eq0 c = ended_down c.loop-j.invariant c.if-p-eq0.true
 
 pub loop-j-preserved : goal.loop-j-preserved
-loop-j-preserved c =     more down_bounded c.loop-j.invariant c.loop-j-test.true (term_down _ _)
+loop-j-preserved c = more down_bounded c.loop-j.invariant c.loop-j-test.true (term_down _ _)
     c.mul_div_down_trillion-p.ensures
 
 pub mul_div_down_trillion-q-requires : goal.mul_div_down_trillion-q-requires

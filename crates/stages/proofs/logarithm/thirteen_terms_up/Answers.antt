@@ -8,11 +8,11 @@ use Rattle.stages.proofs.Series.{fits, product_most, next_fits, begin, more_tota
 use Rattle.stages.proofs.logarithm.thirteen_terms_up.Goals as goal
 
 pub returns-then-p-j : goal.returns-then-p-j
-returns-then-p-j c =     let test = both _ _ c.if-p-j.true in
+returns-then-p-j c = let test = both _ _ c.if-p-j.true in
     ended_up c.loop-j.invariant (eqb-true _ 1 test.0) (ltb-true 0 _ test.1)
 
 pub loop-j-preserved : goal.loop-j-preserved
-loop-j-preserved c =     more up_bounded c.loop-j.invariant c.loop-j-test.true (term_up _ _)
+loop-j-preserved c = more up_bounded c.loop-j.invariant c.loop-j-test.true (term_up _ _)
     c.mul_div_up_trillion-p.ensures
 
 pub mul_div_up_trillion-q-requires : goal.mul_div_up_trillion-q-requires

@@ -22,11 +22,11 @@ sum_most c =
     )
 
 pub mul_div_up_trillion-requires : goal.mul_div_up_trillion-requires
-mul_div_up_trillion-requires c =     fits_up most_proximity_factor (lit< tt) (omega (arith, mul-le-mul c.requires.u_most (sum_most c))) tt
+mul_div_up_trillion-requires c = fits_up most_proximity_factor (lit< tt) (omega (arith, mul-le-mul c.requires.u_most (sum_most c))) tt
 
 pub returns : goal.returns
 unfolding proximity_factor tera
-returns c =     let u = c.args.u in
+returns c = let u = c.args.u in
     c.mul_div_up_trillion.ensures
     ∙ ap₂ (λ g h. up (u * (g + h)) trillion) c.proximity_g.ensures c.proximity_h.ensures
 

@@ -8,7 +8,7 @@ use Rattle.stages.proofs.rating.rating.Goals as goal
 
 pub returns : goal.returns
 unfolding rating
-returns c =     let q = c.mul_div_down in
+returns c = let q = c.mul_div_down in
     root_only c.root.ensures (root_is q.result) ∙ ap root q.ensures
 
 pub mul_div_down-requires : goal.mul_div_down-requires

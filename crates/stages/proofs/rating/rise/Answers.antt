@@ -6,7 +6,7 @@ use Rattle.stages.proofs.Quotients.{quotient_up_fits}
 use Rattle.stages.proofs.rating.rise.Goals as goal
 
 pub returns : goal.returns
-returns c =     let r*t≤ : c.args.r * c.args.t ≤ most_part_rise * 1000000 =
+returns c = let r*t≤ : c.args.r * c.args.t ≤ most_part_rise * 1000000 =
     mul-le-mul c.requires.r_most c.requires.t_most
     in
     record {

@@ -1,6 +1,7 @@
 -- `stages::resistance::temperature_factor` meets its contract: each of the three signed operations has the paper's number, which
 -- fits, and the last is above 0, so that it needs no sign. Assumes nothing.
-use Rattle.std.proofs.Common.{Fits, SFits, T, ap, ap₂, arith, le_trans, mul-le-mul, nat_abs, neg_ℤ, pos, suc-le-suc, sym, to_z, w32, w64, ℕ, ℤ, ◌*ℤ◌, ◌*◌, ◌+ℤ◌, ◌-ℤ◌, ◌∙◌, ◌≡◌, ◌≤◌}
+use Rattle.std.proofs.Common.{Fits, SFits, T, ap, ap₂, arith, le_trans, mul-le-mul, nat_abs, neg_ℤ, pos, suc-le-suc, sym, to_z, w32}
+use Rattle.std.proofs.Common.{w64, ℕ, ℤ, ◌*ℤ◌, ◌*◌, ◌+ℤ◌, ◌-ℤ◌, ◌∙◌, ◌≡◌, ◌≤◌}
 use Rattle.std.proofs.Math.Path.{subst⁻¹}
 use Rattle.std.specs.Int.Signed.{mag, non_neg}
 use Rattle.std.proofs.lemmas.Int.{to_z_pos}
@@ -65,10 +66,10 @@ within c =
     }
 
 pub overflow_cast-result-2 : goal.overflow_cast-result-2
-overflow_cast-result-2 c =     subst⁻¹ (λ z. T (non_neg z) × Fits w64 (nat_abs z)) (read_as (factor (within c))) (unsigned (range (within c)))
+overflow_cast-result-2 c = subst⁻¹ (λ z. T (non_neg z) × Fits w64 (nat_abs z)) (read_as (factor (within c))) (unsigned (range (within c)))
 
 pub returns : goal.returns
-returns c =     let answer = read_as (factor (within c)) in
+returns c = let answer = read_as (factor (within c)) in
     let limits = range (within c) in
     record {
       factor_is = ap (λ z. pos (nat_abs z)) answer ∙ sym limits.sign;

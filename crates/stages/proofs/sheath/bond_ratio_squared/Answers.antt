@@ -15,7 +15,8 @@ mul_div_up-v-requires c = quotient_up_fits most_bond_ratio (omega arith) (omega 
 
 pub mul_div_up_trillion-requires : goal.mul_div_up_trillion-requires
 unfolding bond_ratio_squared bond_ratio tera
-mul_div_up_trillion-requires c = square_fits up_bounded most_bond_ratio most_bond_ratio_squared c.mul_div_up-v.ensures (omega arith) (omega arith) tt tt
+mul_div_up_trillion-requires c =
+    square_fits up_bounded most_bond_ratio most_bond_ratio_squared c.mul_div_up-v.ensures (omega arith) (omega arith) tt tt
 
 pub returns : goal.returns
 unfolding bond_ratio_squared bond_ratio tera

@@ -28,7 +28,8 @@ mul_div_up-m-requires c = quotient_up_fits most_eddy_ratio (omega arith) (omega 
 
 pub mul_div_up_trillion-m2-requires : goal.mul_div_up_trillion-m2-requires
 unfolding eddy_factor tera
-mul_div_up_trillion-m2-requires c = square_fits up_bounded most_eddy_ratio most_eddy_factor c.mul_div_up-m.ensures (omega arith) (omega arith) tt tt
+mul_div_up_trillion-m2-requires c =
+    square_fits up_bounded most_eddy_ratio most_eddy_factor c.mul_div_up-m.ensures (omega arith) (omega arith) tt tt
 
 pub overflow_add-m2 : goal.overflow_add-m2
 unfolding eddy_factor tera

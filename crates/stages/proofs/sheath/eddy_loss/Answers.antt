@@ -34,15 +34,16 @@ cores_most c =
     mul-le-mul j≤ inner≤
 
 pub mul_div_up_trillion-requires : goal.mul_div_up_trillion-requires
-mul_div_up_trillion-requires c =     let pre = c.requires.spacing in
+mul_div_up_trillion-requires c = let pre = c.requires.spacing in
     let place≤ : c.eddy_spacing.result ≤ most_eddy_spacing =
     omega (arith, eddy_spacing_most pre.s>0 pre.apart, c.eddy_spacing.ensures)
     in
-    fits_up 6105000000000 (lit< tt) (le_trans (mul-le-mul (cores_most (goal.at.mul_div_up_trillion-requires c).After-mul_div_up_trillion-inner) place≤) (lit≤ tt)) tt
+    fits_up 6105000000000 (lit< tt)
+    (le_trans (mul-le-mul (cores_most (goal.at.mul_div_up_trillion-requires c).After-mul_div_up_trillion-inner) place≤) (lit≤ tt)) tt
 
 pub returns : goal.returns
 unfolding eddy_loss tera
-returns c =     let rs = c.args.rs in
+returns c = let rs = c.args.rs in
     let j = c.args.j in
     c.mul_div_up_trillion.ensures
     ∙ ap₂ (λ inner place. up (3 * j * inner * place) trillion)

@@ -7,7 +7,7 @@ use Rattle.stages.proofs.Quotients.{quotient_up_fits}
 use Rattle.stages.proofs.sheath.eddy_spacing.Goals as goal
 
 pub mul_div_up-requires : goal.mul_div_up-requires
-mul_div_up-requires c =     let s²>0 = mul-pos c.requires.s>0 c.requires.s>0 in
+mul_div_up-requires c = let s²>0 = mul-pos c.requires.s>0 c.requires.s>0 in
     quotient_up_fits most_eddy_spacing (omega arith) (omega (arith, mul-le-mul c.requires.apart c.requires.apart)) tt
 
 pub overflow_mul-d : goal.overflow_mul-d

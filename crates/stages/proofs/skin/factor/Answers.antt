@@ -39,4 +39,5 @@ mul_div_up-requires c = quotient_up_fits most_skin_ratio_squared (omega arith) (
 
 pub returns : goal.returns
 unfolding factor tera
-returns c = c.mul_div_up.ensures ∙ ap (λ w. up (5 * w * trillion) (960 * trillion + 4 * w)) (w_is (goal.at.returns c).After-mul_div_up_trillion-w)
+returns c =
+    c.mul_div_up.ensures ∙ ap (λ w. up (5 * w * trillion) (960 * trillion + 4 * w)) (w_is (goal.at.returns c).After-mul_div_up_trillion-w)

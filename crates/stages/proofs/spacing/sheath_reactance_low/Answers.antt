@@ -8,7 +8,8 @@ use Rattle.stages.proofs.spacing.sheath_reactance_low.Goals as goal
 
 pub mul_div_down_trillion-requires : goal.mul_div_down_trillion-requires
 unfolding sheath_reactance_low tera
-mul_div_down_trillion-requires c = fits_down most_sheath_reactance (lit< tt) (omega (arith, mul-le-mul c.requires.b_most c.requires.l_most)) tt
+mul_div_down_trillion-requires c =
+    fits_down most_sheath_reactance (lit< tt) (omega (arith, mul-le-mul c.requires.b_most c.requires.l_most)) tt
 
 pub returns : goal.returns
 unfolding sheath_reactance_low tera

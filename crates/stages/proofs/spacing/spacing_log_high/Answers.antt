@@ -7,7 +7,7 @@ use Rattle.stages.proofs.spacing.spacing_log_high.Goals as goal
 
 pub returns : goal.returns
 unfolding spacing_log_high ln2_third_high
-returns c =     c.with_third.ensures
+returns c = c.with_third.ensures
     ∙ ap (λ log. log + third_of c.args.arrangement 231049060187) c.log_high.ensures
 
 pub with_third-requires : goal.with_third-requires

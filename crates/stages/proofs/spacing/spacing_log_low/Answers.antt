@@ -7,7 +7,7 @@ use Rattle.stages.proofs.spacing.spacing_log_low.Goals as goal
 
 pub returns : goal.returns
 unfolding spacing_log_low ln2_third_low
-returns c =     c.with_third.ensures
+returns c = c.with_third.ensures
     ∙ ap (λ log. log + third_of c.args.arrangement 231049060186) c.log_low.ensures
 
 pub with_third-requires : goal.with_third-requires

@@ -13,5 +13,5 @@ all_kept room s h =
     ap (λ (n : ℕ). take room (take n s)) (sub-zero (length s)) ∙ ap (take room) (take-length s) ∙ take_all room s h
 
 pub returns : goal.returns
-returns c =     let a = c.args in
+returns c = let a = c.args in
     put_as _ _ (all_kept (length a.out.now - a.at) a.bytes.now (omega arith)) c.keep.ensures

@@ -23,7 +23,7 @@ and_one s i n tests h past e =
 
 pub returns : goal.returns
 unfolding Past is_in_line
-returns c =     let s = c.args.chunk.now in
+returns c = let s = c.args.chunk.now in
     let i = c.args.i in
     and_one s i 7 _ (omega arith)
     (and_one s i 6 _ (omega arith)

@@ -1,7 +1,8 @@
 -- `text::gather::keep` meets its contract. The invariant: the first i bytes that are kept stand in the line from `len` on. The measure
 -- is what is left of the count.
 -- Assumes nothing.
-use Rattle.std.proofs.Common.{List, [], add-one, ap, arith, drop, get_or, get_or-drop, length, length-drop, length-set, length-take, min, refl, set, suc, sym, take, zero, zero-le, ℕ, ◌++◌, ◌+◌, ◌-◌, ◌<◌, ◌∙◌, ◌∷◌, ◌≡◌, ◌≤◌}
+use Rattle.std.proofs.Common.{List, [], add-one, ap, arith, drop, get_or, get_or-drop, length, length-drop, length-set, length-take}
+use Rattle.std.proofs.Common.{min, refl, set, suc, sym, take, zero, zero-le, ℕ, ◌++◌, ◌+◌, ◌-◌, ◌<◌, ◌∙◌, ◌∷◌, ◌≡◌, ◌≤◌}
 use Rattle.std.proofs.Math.Seq.{paste, paste-zero, paste-suc}
 use Rattle.text.specs.Gather.{piece, kept}
 use Rattle.splice.specs.Splice.{splice}
@@ -58,10 +59,11 @@ turn : (c : In-loop-i)
     Inside (length a.line.now) a.len a.from (length a.chunk.now) c.loop-i.i
 turn c =
     let a = c.args in
-    inside _ _ _ a.to a.chunk.now _ _ (c.kept_count-count.ensures ∙ ap (λ (r : ℕ). length (kept r a.from a.to a.chunk.now)) c.less-room.ensures) c.loop-i-test.true
+    inside _ _ _ a.to a.chunk.now
+    _ _ (c.kept_count-count.ensures ∙ ap (λ (r : ℕ). length (kept r a.from a.to a.chunk.now)) c.less-room.ensures) c.loop-i-test.true
 
 pub loop-i-init : goal.loop-i-init
-loop-i-init c =     let a = c.args in
+loop-i-init c = let a = c.args in
     (zero-le, (refl, paste-zero _ a.len (drop a.from a.chunk.now)))
 
 pub overflow_add-line : goal.overflow_add-line
@@ -80,16 +82,16 @@ pub overflow_add-i : goal.overflow_add-i
 overflow_add-i c = let h = turn (goal.at.overflow_add-i c).In-loop-i in omega arith
 
 pub loop-i-preserved : goal.loop-i-preserved
-loop-i-preserved c =     let h = turn (goal.at.loop-i-preserved c).In-loop-i in (
-      omega arith,
-      (
-        simp length-set (omega arith),
-        store _ _ _ _ c.loop-i.i _ h.to_write h.to_read c.loop-i.invariant.1.1,
-      ),
-    )
+loop-i-preserved c = let h = turn (goal.at.loop-i-preserved c).In-loop-i in (
+  omega arith,
+  (
+    simp length-set (omega arith),
+    store _ _ _ _ c.loop-i.i _ h.to_write h.to_read c.loop-i.invariant.1.1,
+  ),
+)
 
 pub overflow_add-result : goal.overflow_add-result
-overflow_add-result c =     let a = c.args in
+overflow_add-result c = let a = c.args in
     let b = bound (length a.line.now - a.len) a.from a.to a.chunk.now in
     omega (arith, b, count_is (goal.at.overflow_add-result c).After-kept_count-count)
 
@@ -97,7 +99,7 @@ pub shape_of-line : goal.shape_of-line
 shape_of-line c = c.loop-i.invariant.1.0
 
 pub returns : goal.returns
-returns c =     let a = c.args in
+returns c = let a = c.args in
     let count = count_is (goal.at.returns c).After-kept_count-count in
     let all : c.loop-i.i ≡ c.kept_count-count.result = omega arith in
     record {

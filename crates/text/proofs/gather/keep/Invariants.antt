@@ -6,7 +6,8 @@ use Rattle.std.proofs.Math.Seq.{paste}
 use Rattle.text.proofs.gather.keep.Given as goal
 
 abbrev pub invariant-loop-i : goal.invariant-loop-i
-invariant-loop-i l =     (l.i ≤ l.count) × ((length l.line ≡ length l.initial.line) × (l.line ≡ paste l.initial.line l.len (drop l.from l.chunk) l.i))
+invariant-loop-i l =
+    (l.i ≤ l.count) × ((length l.line ≡ length l.initial.line) × (l.line ≡ paste l.initial.line l.len (drop l.from l.chunk) l.i))
 
 abbrev pub decreases-loop-i : goal.decreases-loop-i
 decreases-loop-i l = l.count - l.i

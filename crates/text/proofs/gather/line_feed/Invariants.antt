@@ -3,7 +3,6 @@
 -- Assumes nothing.
 use Rattle.std.proofs.Common.{length, ◌-◌, ◌≡◌}
 use Rattle.text.specs.Gather.{is_in_line}
-use Rattle.text.specs.Laws.Runs.{run_end_past}
 use Rattle.text.specs.Words.{run_end}
 use Rattle.text.proofs.gather.line_feed.Given as goal
 

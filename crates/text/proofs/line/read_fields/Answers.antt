@@ -1,7 +1,8 @@
 -- `text::line::read_fields` meets its contract. The invariant: what the line says is the i numbers read so far in front of what the
 -- words from `at` on say. The measure is the count of numbers that are left.
 -- Assumes nothing.
-use Rattle.std.proofs.Common.{List, add-one, ap, arith, drop, length, length-set, refl, set, suc, sym, take, take-suc-set, take_all, ℕ, ◌+◌, ◌-◌, ◌<◌, ◌∙◌, ◌≡◌, ◌≤◌}
+use Rattle.std.proofs.Common.{List, add-one, ap, arith, drop, length, length-set, refl, set, suc, sym, take, take-suc-set, take_all, ℕ}
+use Rattle.std.proofs.Common.{◌+◌, ◌-◌, ◌<◌, ◌∙◌, ◌≡◌, ◌≤◌}
 use Rattle.text.specs.declared.number.Reading.{Reading}
 use Rattle.text.specs.declared.number.Reading.TheVariants.{Number, Nothing}
 use Rattle.text.specs.Laws.After.{after, after_one, after_unreadable, after_none}
@@ -76,7 +77,7 @@ read_word-word-requires c = rw c.skip_blanks-from.ensures (run_within is_blank _
 
 pub returns-in-Nothing : goal.returns-in-Nothing
 unfolding answer
-returns-in-Nothing c =     c.no_case.ensures
+returns-in-Nothing c = c.no_case.ensures
     ∙ ap answer
     (bad
     c.loop-i.invariant
@@ -92,7 +93,7 @@ pub loop-i-smaller : goal.loop-i-smaller
 loop-i-smaller c = omega arith
 
 pub loop-i-preserved : goal.loop-i-preserved
-loop-i-preserved c =     next
+loop-i-preserved c = next
     c.loop-i.invariant
     (more (goal.at.loop-i-preserved c).In-loop-i)
     _
@@ -105,10 +106,10 @@ loop-i-preserved c =     next
 
 pub returns-then-skip_blanks-s : goal.returns-then-skip_blanks-s
 unfolding answer
-returns-then-skip_blanks-s c =     c.no_case-then-skip_blanks-s.ensures
+returns-then-skip_blanks-s c = c.no_case-then-skip_blanks-s.ensures
     ∙ ap answer
     (too_long c.loop-i.invariant c.loop-i-test.false _ c.skip_blanks.ensures c.if-skip_blanks-s.true)
 
 pub returns : goal.returns
 unfolding answer
-returns c =     ap answer (done c.loop-i.invariant c.loop-i-test.false _ c.skip_blanks.ensures c.if-skip_blanks-s.false)
+returns c = ap answer (done c.loop-i.invariant c.loop-i-test.false _ c.skip_blanks.ensures c.if-skip_blanks-s.false)

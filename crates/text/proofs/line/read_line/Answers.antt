@@ -1,6 +1,7 @@
 -- `text::line::read_line` meets its contract: a line that is too long is unreadable, and any other is read without its carriage return.
 -- Assumes nothing.
-use Rattle.std.proofs.Common.{Bool, List, ap, arith, cond, eqb, false, get_or, le-ltb, le_refl, length, length-take-le, sym, take, true, ℕ, ◌-◌, ◌∙◌, ◌≡◌, ◌≤◌}
+use Rattle.std.proofs.Common.{Bool, List, ap, arith, cond, eqb, false, get_or, le-ltb, le_refl, length, length-take-le, sym, take, true}
+use Rattle.std.proofs.Common.{ℕ, ◌-◌, ◌∙◌, ◌≡◌, ◌≤◌}
 use Rattle.text.specs.Answer.{answer}
 use Rattle.text.specs.Laws.Gather.{too_long}
 use Rattle.text.specs.Line.{says, text_length, longest_line, read_line_of, read_line}
@@ -24,9 +25,9 @@ unfolding answer read_line
 returns-then-line-gt-LONGEST c = c.no_case.ensures ∙ ap answer (sym (too_long width _ (omega arith)))
 
 pub slice_bounds-read_text-end : goal.slice_bounds-read_text-end
-slice_bounds-read_text-end c =     let l = c.args.line.now in
+slice_bounds-read_text-end c = let l = c.args.line.now in
     sym (length-take-le _ l (within l _ c.text_length-n.ensures))
 
 pub returns : goal.returns
 unfolding read_line
-returns c =     c.read_text.ensures ∙ ap answer (taken width _ _ c.if-line-gt-LONGEST.false c.text_length-n.ensures)
+returns c = c.read_text.ensures ∙ ap answer (taken width _ _ c.if-line-gt-LONGEST.false c.text_length-n.ensures)

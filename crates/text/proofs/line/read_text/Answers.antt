@@ -24,7 +24,7 @@ unfolding says
 numbers n s from e h k = rw (past_blanks s 0 from e, left s from h, ne_eqb _ _ k)
 
 pub returns : goal.returns
-returns c =     c.read_fields.ensures ∙ numbers width _ _ c.skip_blanks.ensures c.if-s-skip_blanks.false c.if-s-eq35.false
+returns c = c.read_fields.ensures ∙ numbers width _ _ c.skip_blanks.ensures c.if-s-skip_blanks.false c.if-s-eq35.false
 
 pub returns-then-s-skip_blanks : goal.returns-then-s-skip_blanks
 returns-then-s-skip_blanks c = c.no_case.ensures ∙ blank width _ _ c.skip_blanks.ensures c.if-s-skip_blanks.true

@@ -9,11 +9,11 @@ use Rattle.text.specs.Words.{is_ink}
 use Rattle.text.proofs.line.read_word.Goals as goal
 
 pub overflow_cast-result : goal.overflow_cast-result
-overflow_cast-result c =     let leading = c.leading_digits-digits.ensures in
+overflow_cast-result c = let leading = c.leading_digits-digits.ensures in
     omega (arith, (number_in _ leading c.is_number.ensures c.if-is_number.true).fits)
 
 pub returns-then-is_past_word : goal.returns-then-is_past_word
-returns-then-is_past_word c =     let leading = c.leading_digits-digits.ensures in
+returns-then-is_past_word c = let leading = c.leading_digits-digits.ensures in
     let number = number_in _ leading c.is_number.ensures c.if-is_number.true in
     let past = c.is_past_word.ensures c.if-is_past_word.true in
     record { end_is = word_ends _ _ _ _ number.digits past; said_is = sym (word_says number) }

@@ -1,7 +1,7 @@
 -- `text::number::leading_digits` meets its contract. The invariant: the bytes passed are digits of the value so far, which is below 10^i,
 -- and the digits from there on end where all do. The measure is how many of the ten are left.
 -- Assumes nothing.
-use Rattle.std.proofs.Common.{List, ap, arith, false, get_or, length, subst, sym, ℕ, ⊎_elim, ◌*◌, ◌+◌, ◌-◌, ◌<◌, ◌∙◌, ◌≡◌, ◌≤◌}
+use Rattle.std.proofs.Common.{List, ap, arith, false, get_or, length, subst, sym, ℕ, ◌*◌, ◌+◌, ◌-◌, ◌<◌, ◌∙◌, ◌≡◌, ◌≤◌}
 use Rattle.text.specs.Leading.{DigitsIn, digits_end}
 use Rattle.text.specs.Laws.Leading.{digits_none, digits_more, small_more, small_most}
 use Rattle.text.specs.Number.{is_digit}
@@ -10,7 +10,8 @@ use Rattle.text.specs.Laws.Runs.{run_more, run_stop}
 use Rattle.text.specs.Words.{run_end}
 use Rattle.text.proofs.number.leading_digits.Invariants.{Read-so-far}
 use Rattle.text.proofs.number.leading_digits.Goals as goal
-use Rattle.text.proofs.number.leading_digits.Goals.{In-loop-i, else-loop-i-test, then-loop-i-test+then-b-lt48, then-loop-i-test+else-b-lt48+then-b-gt57}
+use Rattle.text.proofs.number.leading_digits.Goals.{In-loop-i, else-loop-i-test, then-loop-i-test+then-b-lt48}
+use Rattle.text.proofs.number.leading_digits.Goals.{then-loop-i-test+else-b-lt48+then-b-gt57}
 
 -- the digits end after i of them: there are ten, or another byte stands there
 module _ {s : List ℕ} {from value i : ℕ} (on : Read-so-far s from value i) where
@@ -29,7 +30,7 @@ within : (n from i : ℕ) → from + 10 ≤ n → i < 10 → from + i < n
 within n from i h k = omega arith
 
 pub loop-i-init : goal.loop-i-init
-loop-i-init c =     let a = c.args in
+loop-i-init c = let a = c.args in
     let here : a.from ≡ a.from + 0 = omega arith in
     record {
       few = omega arith;
@@ -42,7 +43,7 @@ value_fits : (c : In-loop-i) → c.loop-i.value < 10000000000
 value_fits c = let at_loop = c.loop-i in small_most at_loop.i at_loop.value at_loop.invariant.small at_loop.invariant.few
 
 pub loop-i-preserved : goal.loop-i-preserved
-loop-i-preserved c =     let on = c.loop-i.invariant in
+loop-i-preserved c = let on = c.loop-i.invariant in
     let a = c.args in
     let i = c.loop-i.i in
     let b = get_or a.s.now (a.from + i) 0 in
@@ -63,7 +64,7 @@ returns c =
     let inside = within _ _ c.loop-i.i c.requires in
     let ended : c.args.from + c.loop-i.i ≡ digits_end c.args.s.now c.args.from =
     elim c.loop-i-test.branch [
-      else-loop-i-test w ↦ ten on w.loop-i-test.false
+      | else-loop-i-test w ↦ ten on w.loop-i-test.false
       | then-loop-i-test+then-b-lt48 w ↦ no_digit on (inside w.loop-i-test.true) (is_below_digits _ w.if-b-lt48.true)
       | then-loop-i-test+else-b-lt48+then-b-gt57 w ↦
           no_digit on (inside w.loop-i-test.true) (is_above_digits _ w.if-b-gt57.true)

@@ -4,7 +4,6 @@
 use Rattle.std.proofs.Common.{List, ℕ, ◌+◌, ◌-◌, ◌<◌, ◌^◌, ◌≡◌, ◌≤◌}
 use Rattle.text.specs.Leading.{DigitsIn}
 use Rattle.text.specs.Number.{is_digit}
-use Rattle.text.specs.Laws.Number.{is_digit_within}
 use Rattle.text.specs.Words.{run_end}
 use Rattle.text.proofs.number.leading_digits.Given as goal
 

@@ -8,10 +8,10 @@ use Rattle.text.proofs.number.read_digits.Goals as goal
 use Rattle.text.proofs.number.read_digits.Goals.{Else-b-gt57}
 
 pub returns-then-b-lt48 : goal.returns-then-b-lt48
-returns-then-b-lt48 c =     sym (c.loop-i.invariant.1 ∙ onward_low _ _ _ _ c.loop-i-test.true c.if-b-lt48.true)
+returns-then-b-lt48 c = sym (c.loop-i.invariant.1 ∙ onward_low _ _ _ _ c.loop-i-test.true c.if-b-lt48.true)
 
 pub returns-then-b-gt57 : goal.returns-then-b-gt57
-returns-then-b-gt57 c =     sym (c.loop-i.invariant.1 ∙ onward_high _ _ _ _ c.loop-i-test.true (omega arith))
+returns-then-b-gt57 c = sym (c.loop-i.invariant.1 ∙ onward_high _ _ _ _ c.loop-i-test.true (omega arith))
 
 -- a digit was read
 turn : (c : Else-b-gt57)
@@ -23,7 +23,7 @@ turn c =
     c.loop-i.invariant.1 ∙ onward_digit _ _ _ _ c.loop-i-test.true c.if-b-lt48.false c.if-b-gt57.false
 
 pub returns : goal.returns
-returns c =     let at_loop = c.loop-i in
+returns c = let at_loop = c.loop-i in
     sym (at_loop.invariant.1 ∙ onward_end _ _ _ _ c.loop-i-test.false at_loop.invariant.0)
 
 pub returns-then-w-eq0 : goal.returns-then-w-eq0

@@ -1,6 +1,7 @@
 -- `text::number::read_number` meets its contract: the tests that led to a `return` say which case of `read_number` holds.
 -- Assumes nothing.
-use Rattle.std.proofs.Common.{List, [], ap, arith, drop, eq-eqb, get_or, length, length-drop, ne_eqb, sym, take, take_all, ℕ, ◌-◌, ◌∙◌, ◌∷◌, ◌≡◌}
+use Rattle.std.proofs.Common.{List, [], ap, arith, drop, eq-eqb, get_or, length, length-drop, ne_eqb, sym, take, take_all, ℕ, ◌-◌, ◌∙◌}
+use Rattle.std.proofs.Common.{◌∷◌, ◌≡◌}
 use Rattle.text.specs.declared.number.Reading.{Reading}
 use Rattle.text.specs.declared.number.Reading.TheVariants.{Nothing}
 use Rattle.text.specs.Number.{read_digits, negated, read_number}
@@ -25,11 +26,11 @@ minus w r h e =
 
 pub returns-in-Number : goal.returns-in-Number
 unfolding negated
-returns-in-Number c =     ap negated (sym c.in-Number.is) ∙ minus _ _ c.if-w-ne45.false c.read_digits-2.ensures
+returns-in-Number c = ap negated (sym c.in-Number.is) ∙ minus _ _ c.if-w-ne45.false c.read_digits-2.ensures
 
 pub returns-in-Nothing : goal.returns-in-Nothing
 unfolding negated
-returns-in-Nothing c =     ap negated (sym c.in-Nothing.is) ∙ minus _ _ c.if-w-ne45.false c.read_digits-2.ensures
+returns-in-Nothing c = ap negated (sym c.in-Nothing.is) ∙ minus _ _ c.if-w-ne45.false c.read_digits-2.ensures
 
 pub returns-then-w-eq0 : goal.returns-then-w-eq0
 returns-then-w-eq0 c = empty _ c.if-w-eq0.true

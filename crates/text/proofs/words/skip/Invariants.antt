@@ -2,7 +2,6 @@
 -- what is left of the slice.
 -- Assumes nothing.
 use Rattle.std.proofs.Common.{length, ◌-◌, ◌≡◌}
-use Rattle.text.specs.Laws.Runs.{run_end_past}
 use Rattle.text.specs.Words.{is_kind, run_end}
 use Rattle.text.proofs.words.skip.Given as goal
 

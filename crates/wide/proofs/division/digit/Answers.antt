@@ -12,19 +12,19 @@ owed_room : (s : Start) → owed s.args.u s.args.v < 2 ^ 64
 owed_room s = owed_fits s.args.u s.args.next s.args.v s.requires
 
 pub overflow_sub-result : goal.overflow_sub-result
-overflow_sub-result c =     omega (arith, more_than c.args.u c.args.next c.args.v c.requires 1 (omega arith))
+overflow_sub-result c = omega (arith, more_than c.args.u c.args.next c.args.v c.requires 1 (omega arith))
 
 pub returns-then-short-v : goal.returns-then-short-v
-returns-then-short-v c =     digit_is c.args.u c.args.next c.args.v c.requires 2
+returns-then-short-v c = digit_is c.args.u c.args.next c.args.v c.requires 2
     (omega (arith, overflow_sub-result c))
     (omega (arith, owed_room (goal.at.returns-then-short-v c).Start))
     (omega (arith, owed_room (goal.at.returns-then-short-v c).Start))
 
 pub overflow_sub-result-2 : goal.overflow_sub-result-2
-overflow_sub-result-2 c =     one_off c.args.u c.args.next c.args.v c.requires c.sign.result (omega arith) (omega arith)
+overflow_sub-result-2 c = one_off c.args.u c.args.next c.args.v c.requires c.sign.result (omega arith) (omega arith)
 
 pub returns : goal.returns
-returns c =     near_guess c.args.u c.args.next c.args.v c.requires c.sign.result c.remaining.result
+returns c = near_guess c.args.u c.args.next c.args.v c.requires c.sign.result c.remaining.result
     (omega arith)
     (omega arith)
     c.remaining.ensures

@@ -4,7 +4,7 @@ use Rattle.wide.specs.Laws.Split.{upward_none, upward_some}
 use Rattle.wide.proofs.division.rounded_up.Goals as goal
 
 pub overflow_add-result : goal.overflow_add-result
-overflow_add-result c =     let d = c.args.d in
+overflow_add-result c = let d = c.args.d in
     omega (arith, upward_some d.quotient d.rest c.if-d-eq0.false)
 
 pub returns-then-d-eq0 : goal.returns-then-d-eq0

@@ -16,5 +16,5 @@ shifted a z j e from below =
     }
 
 pub returns : goal.returns
-returns c =     let top = leading_top 64 c.args.c c.requires c.ranges.c.fits in
+returns c = let top = leading_top 64 c.args.c c.requires c.ranges.c.fits in
     shifted c.args.c _ top.0 top.1 top.2 top.3

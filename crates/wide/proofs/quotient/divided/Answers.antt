@@ -7,7 +7,7 @@ use Rattle.wide.proofs.quotient.divided.Goals as goal
 
 pub returns : goal.returns
 unfolding value
-returns c =     two_digits c.args.w.lo (2 ^ 64) (divided c.args.w.hi c.requires) c.divide-low.ensures
+returns c = two_digits c.args.w.lo (2 ^ 64) (divided c.args.w.hi c.requires) c.divide-low.ensures
 
 pub divide-low-requires : goal.divide-low-requires
 divide-low-requires c = mod-lt _ c.requires

@@ -18,13 +18,13 @@ room q k some fits small = omega arith
 
 pub sum-requires : goal.sum-requires
 unfolding value
-sum-requires c =     room _ _ (split_more c.divided-d.ensures c.if-d-eq0.false)
+sum-requires c = room _ _ (split_more c.divided-d.ensures c.if-d-eq0.false)
     (digits_lt {m = 2 ^ 64} (limbs_fit (goal.at.sum-requires c).Else-d-eq0).0 (limbs_fit (goal.at.sum-requires c).Else-d-eq0).1)
     (lit≤ tt)
 
 pub returns : goal.returns
 unfolding value
-returns c =     let d = c.divided-d in
+returns c = let d = c.divided-d in
     c.sum.ensures
     ∙ sym (upward_some (value d.result.quotient) d.result.rest c.if-d-eq0.false)
     ∙ split_up d.ensures

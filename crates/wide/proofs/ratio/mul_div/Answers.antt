@@ -8,9 +8,9 @@ use Rattle.wide.proofs.ratio.mul_div.Goals as goal
 
 pub divide-requires : goal.divide-requires
 unfolding value
-divide-requires c =     high_below c.product-n.result.hi c.product-n.result.lo (2 ^ 64) c.requires.c>0 c.product-n.ensures c.requires.fits
+divide-requires c = high_below c.product-n.result.hi c.product-n.result.lo (2 ^ 64) c.requires.c>0 c.product-n.ensures c.requires.fits
 
 pub returns : goal.returns
 unfolding value
-returns c =     let d = c.divide.result in
+returns c = let d = c.divide.result in
     subst (λ (n : ℕ). Split n c.args.c d.quotient d.rest) c.product-n.ensures c.divide.ensures

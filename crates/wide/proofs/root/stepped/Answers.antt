@@ -5,7 +5,7 @@ use Rattle.wide.proofs.Newton.{step_above}
 use Rattle.wide.proofs.root.stepped.Goals as goal
 
 pub overflow_add-r : goal.overflow_add-r
-overflow_add-r c =     let q = c.args.x / c.args.g in
+overflow_add-r c = let q = c.args.x / c.args.g in
     omega (arith, div-mul-le_self c.args.x c.args.g, mul-le-mul_left {m = 2} {n = c.args.g} q (omega arith))
 
 pub returns : goal.returns

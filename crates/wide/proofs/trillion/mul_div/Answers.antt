@@ -9,9 +9,9 @@ use Rattle.wide.proofs.trillion.mul_div.Goals as goal
 
 pub divide-requires : goal.divide-requires
 unfolding value
-divide-requires c =     high_below c.product-n.result.hi c.product-n.result.lo (2 ^ 64) (omega arith) c.product-n.ensures c.requires
+divide-requires c = high_below c.product-n.result.hi c.product-n.result.lo (2 ^ 64) (omega arith) c.product-n.ensures c.requires
 
 pub returns : goal.returns
 unfolding value
-returns c =     let d = c.divide.result in
+returns c = let d = c.divide.result in
     subst (λ (n : ℕ). Split n trillion d.quotient d.rest) c.product-n.ensures c.divide.ensures

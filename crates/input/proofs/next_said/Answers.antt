@@ -1,5 +1,5 @@
 -- `next_said` keeps its positions within the buffers, and of a line that the chunk has to its end says what it says.
-use Rattle.std.proofs.Common.{true, ◌≡◌, ◌<◌, ◌≤◌, length, take, ℕ, ◌+◌, List, sym, ap, subst, ◌∙◌, arith, length-take-le}
+use Rattle.std.proofs.Common.{true, ◌≡◌, ◌<◌, ◌≤◌, length, take, ℕ, List, sym, ap, subst, ◌∙◌, arith, length-take-le}
 use Rattle.input.specs.State.{said_here}
 use Rattle.line_in_place.specs.declared.Line.{Line}
 use Rattle.line_in_place.specs.Laws.Standing.{whole_within}

@@ -1,6 +1,6 @@
 // A stream, as standard input, line by line, in two buffers that the caller lends: a chunk as it was
-// read, and the line that is gathered from chunks. Memory does not grow with the input, and a budget of reads
-// makes every loop end.
+// read, and the line that is gathered from chunks. Memory does not grow with the input, and a budget
+// of reads makes every loop end.
 #![tactic(auto)]
 
 ghost use Rattle.std.specs.Prelude.{true, ◌≡◌, ◌≤◌, length, take};

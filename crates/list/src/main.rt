@@ -7,8 +7,8 @@ ghost use Rattle.std.specs.Prelude.{◌≤◌, length};
 use output::send;
 use std::io::Read;
 
-// One read, and how many bytes it put at the front of `part`: none at the end of the input, or where
-// reading fails.
+// One read, and how many bytes it put at the front of `part`: none at the end of the input, or
+// where reading fails.
 fn read_some<R: Read>(source: &mut R, part: &mut [u8]) -> usize
     ensures { result ≤ length part.new }
 {

@@ -1,5 +1,5 @@
-// Writing the front of a buffer to a stream, as standard output. What a program prints is put into a
-// buffer first, of which a contract can speak, and goes out from there.
+// Writing the front of a buffer to a stream, as standard output. What a program prints is put into
+// a buffer first, of which a contract can speak, and goes out from there.
 #![tactic(auto)]
 
 ghost use Rattle.std.specs.Prelude.{◌≡◌, true, take};

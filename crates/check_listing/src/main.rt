@@ -3,6 +3,7 @@
 // changed; and of books of four such cases in which up to three records disagree, at the first, the
 // last and adjacent places.
 #![tactic(auto)]
+
 ghost use Rattle.std.specs.Prelude.{◌≡◌, ◌≤◌, ◌<◌, length};
 
 use book::append::append;
@@ -11,6 +12,7 @@ use book_bytes::layout::{RECORD_LENGTH, TRAILER_LENGTH};
 use fields::WIDTH;
 use list_text::list_book;
 use output::send;
+use std::io::Write;
 
 // The used length of the small book.
 const USED: usize = RECORD_LENGTH + TRAILER_LENGTH;
@@ -50,7 +52,7 @@ fn change(book: &mut [u8], at: usize, byte: u8)
 fn example() -> [u8; 65536]
     ensures { 65536 ≡ length result }
 {
-    let mut book = io::large_buffer();
+    let mut book = [0u8; 65536];
     write_example(&mut book);
     book
 }
@@ -61,38 +63,39 @@ fn changed_example(at: usize, byte: u8) -> [u8; 65536] {
     book
 }
 
-fn show(book: &[u8; 65536], used: usize) {
-    let mut out = io::large_buffer();
+fn show<W: Write>(to: &mut W, book: &[u8; 65536], used: usize) {
+    let mut out = [0u8; 65536];
     let len = list_book(book, used, &mut out);
-    send(&out, len);
+    send(to, &out, len);
 }
 
 // Four cases, and another rating in three of their records, counted from 1; two may be the same.
-fn show_disagreeing(first: usize, second: usize, third: usize)
+fn show_disagreeing<W: Write>(to: &mut W, first: usize, second: usize, third: usize)
     requires { (0 < first) × (first ≤ 4) × (0 < second) × (second ≤ 4) × (0 < third) × (third ≤ 4) }
 {
-    let mut book = io::large_buffer();
+    let mut book = [0u8; 65536];
     write_longer_example(&mut book);
     change(&mut book, RECORD_LENGTH * first - 1, 1);
     change(&mut book, RECORD_LENGTH * second - 1, 1);
     change(&mut book, RECORD_LENGTH * third - 1, 1);
-    show(&book, 4 * RECORD_LENGTH + TRAILER_LENGTH);
+    show(to, &book, 4 * RECORD_LENGTH + TRAILER_LENGTH);
 }
 
-fn main() {
+fn main(rt: HostRuntime) {
+    let to = &mut rt.stdout();
     let sound = example();
-    show(&sound, USED);
-    show(&sound, 65537);
+    show(to, &sound, USED);
+    show(to, &sound, 65537);
     let unmarked = changed_example(RECORD_LENGTH, 0);
-    show(&unmarked, USED);
+    show(to, &unmarked, USED);
     let another_length = changed_example(USED - 1, 113);
-    show(&another_length, USED);
+    show(to, &another_length, USED);
     let another_rating = changed_example(RECORD_LENGTH - 1, 1);
-    show(&another_rating, USED);
-    show_disagreeing(4, 4, 4);
-    show_disagreeing(1, 4, 4);
-    show_disagreeing(1, 2, 2);
-    show_disagreeing(2, 3, 3);
-    show_disagreeing(3, 4, 4);
-    show_disagreeing(4, 2, 1);
+    show(to, &another_rating, USED);
+    show_disagreeing(to, 4, 4, 4);
+    show_disagreeing(to, 1, 4, 4);
+    show_disagreeing(to, 1, 2, 2);
+    show_disagreeing(to, 2, 3, 3);
+    show_disagreeing(to, 3, 4, 4);
+    show_disagreeing(to, 4, 2, 1);
 }

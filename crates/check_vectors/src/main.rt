@@ -5,6 +5,7 @@
 // must get is compared byte by byte, so lines are read by their bytes here, and not by what they
 // say.
 #![tactic(auto)]
+
 ghost use Rattle.std.specs.Prelude.{◌≤◌, length};
 ghost use Rattle.rate_text.specs.Answers.{answer_room};
 
@@ -12,7 +13,7 @@ mod expected;
 mod tally;
 mod two_records;
 
-use libc::STDOUT_FILENO;
+use std::io;
 use tally::{Tally, nothing};
 use text::line::{CASE, read_line};
 
@@ -44,14 +45,14 @@ fn turn(t: Tally, out: &mut [u8], number: u64, line: &[u8], len: usize) -> Tally
 }
 
 // Each line in turn, and how many comparisons were made.
-fn compare(chunk: &mut [u8], line: &mut [u8], out: &mut [u8]) -> Tally
+fn compare<S: io::Read>(source: &mut S, chunk: &mut [u8], line: &mut [u8], out: &mut [u8]) -> Tally
     requires { answer_room ≤ length out.old }
 {
     let mut from = input::start();
     let mut t = nothing();
     let mut number: u64 = 0;
     while number < u64::MAX {
-        let next = input::next_line(chunk, line, from);
+        let next = input::next_line(source, chunk, line, from);
         if !next.found {
             return t;
         }
@@ -62,22 +63,26 @@ fn compare(chunk: &mut [u8], line: &mut [u8], out: &mut [u8]) -> Tally
     t
 }
 
-fn say(count: u64, words: &[u8]) {
-    io::print_decimal(STDOUT_FILENO, count);
-    io::write_all(STDOUT_FILENO, words);
+fn say(to: &impl Print, count: u64, words: &str) -> io::Result<()> {
+    print!(to; "{count}{words}")
 }
 
-fn main() {
-    let mut chunk = io::large_buffer();
+fn main(rt: HostRuntime) -> io::Result<()> {
+    let mut source = rt.stdin();
+    let mut chunk = [0u8; 65536];
     let mut line = [0u8; input::LINE];
-    let mut out = io::large_buffer();
-    let t = compare(&mut chunk, &mut line, &mut out);
+    let mut out = [0u8; 65536];
+    let t = compare(&mut source, &mut chunk, &mut line, &mut out);
     let cases = t.cases;
-    say(cases.made, b" cases compared, ");
-    say(cases.failed, b" differ\n");
+    say(&rt, cases.made, " cases compared, ")?;
+    say(&rt, cases.failed, " differ\n")?;
     let ranges = t.ranges;
-    say(ranges.made, b" published ratings held to their tolerance, ");
-    say(ranges.failed, b" outside\n");
-    io::write_all(STDOUT_FILENO, b"a book of 2 records has the distance ");
-    say(two_records::distance_of_two(), b"\n");
+    say(
+        &rt,
+        ranges.made,
+        " published ratings held to their tolerance, ",
+    )?;
+    say(&rt, ranges.failed, " outside\n")?;
+    print!(rt; "a book of 2 records has the distance ")?;
+    say(&rt, two_records::distance_of_two(), "\n")
 }

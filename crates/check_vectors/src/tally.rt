@@ -2,7 +2,7 @@
 ghost use Rattle.std.specs.Prelude.{◌≡◌};
 
 // How many comparisons of one kind were made, and how many of them failed.
-#[derive(Drop)]
+#[derive(Clone, Copy)]
 pub struct Count {
     pub made: u64,
     pub failed: u64,
@@ -10,7 +10,7 @@ pub struct Count {
 
 // `printed` is the length of the waiting case's text, 0 where none waits, and `rating` its rating.
 // `cases` were compared with a line, and `ranges` with a range of the rating.
-#[derive(Drop)]
+#[derive(Clone, Copy)]
 pub struct Tally {
     pub printed: usize,
     pub rating: u64,

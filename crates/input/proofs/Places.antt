@@ -1,11 +1,10 @@
--- The two positions of gathering stay within their buffers: the place of a line feed within the chunk's part, and the new length
--- within the line. Assumes nothing.
-use Rattle.std.proofs.Common.{◌≡◌, ap, List, ℕ, ◌≤◌, arith, length, take, length-append, length-take-le}
+-- Where gathering stops is within the chunk's part, and the new length within the line. Assumes nothing.
+use Rattle.std.proofs.Common.{◌≡◌, ℕ, ◌≤◌, List, length, take, ap, arith, length-append, length-take-le}
 use Rattle.text.specs.Gather.{is_in_line}
 use Rattle.text.specs.Laws.Runs.{run_within}
+use Rattle.text.specs.Words.{run_end}
 use Rattle.splice.specs.Put.{Put}
 use Rattle.splice.specs.Splice.{splice}
-use Rattle.text.specs.Words.{run_end}
 
 pub stop_within :
     {at stop end : ℕ} (l : List ℕ) → at ≤ end → end ≤ length l → stop ≡ run_end is_in_line (take end l) at → stop ≤ end

@@ -1,13 +1,15 @@
-// Standard input, line by line, in two buffers that the caller lends: a chunk as it was read, and
-// the line that is gathered from chunks. Memory does not grow with the input, and a budget of reads
-// makes every loop end.
+// A stream, as standard input, line by line, in two buffers that the caller lends: a chunk as it was
+// read, and the line that is gathered from chunks. Memory does not grow with the input, and a budget
+// of reads makes every loop end.
 #![tactic(auto)]
+
 ghost use Rattle.std.specs.Prelude.{true, ◌≡◌, ◌≤◌, length, take};
 ghost use Rattle.input.specs.Laws.Steps.{PartReady, PartGathered};
 ghost use Rattle.input.specs.State.{Ready, Given, said_here};
 ghost use Rattle.line_in_place.specs.Standing.{standing};
 
 use line_in_place::read_at;
+use std::io;
 use text::gather::{ROOM, keep, line_feed};
 use text::line::{Read, read_line};
 
@@ -69,11 +71,13 @@ fn gather(chunk: &[u8], line: &mut [u8], len: usize, at: usize, end: usize) -> G
 
 // The chunk filled anew, and how many bytes it has: none at the end of the input, or where reading
 // fails.
-fn refill(chunk: &mut [u8]) -> usize
+fn refill<S: io::Read>(source: &mut S, chunk: &mut [u8]) -> usize
     ensures { result ≤ length chunk.new }
 {
-    let got = libc::read(libc::STDIN_FILENO, chunk);
-    io::count(got, chunk)
+    match source.read(chunk) {
+        Ok(count) => count,
+        Err(_) => 0,
+    }
 }
 
 // What is left of the line at the end of the input, if anything is.
@@ -92,7 +96,12 @@ fn last(len: usize) -> NextLine
 }
 
 // The next line, without its line feed, at the front of `line`; of a longer one as much as fits.
-pub fn next_line(chunk: &mut [u8], line: &mut [u8], from: Input) -> NextLine
+pub fn next_line<S: io::Read>(
+    source: &mut S,
+    chunk: &mut [u8],
+    line: &mut [u8],
+    from: Input,
+) -> NextLine
     requires { Ready from (length chunk.old) }
     ensures { Given result (length chunk.new) (length line.new) }
 {
@@ -114,7 +123,7 @@ pub fn next_line(chunk: &mut [u8], line: &mut [u8], from: Input) -> NextLine
                 },
             };
         }
-        end = refill(chunk);
+        end = refill(source, chunk);
         if end == 0 {
             return last(len);
         }
@@ -126,7 +135,12 @@ pub fn next_line(chunk: &mut [u8], line: &mut [u8], from: Input) -> NextLine
 
 // What the next line says. A line that the chunk has to its line feed is read there, and any other
 // is gathered in `line` first.
-pub fn next_said(chunk: &mut [u8], line: &mut [u8], from: Input) -> NextSaid
+pub fn next_said<S: io::Read>(
+    source: &mut S,
+    chunk: &mut [u8],
+    line: &mut [u8],
+    from: Input,
+) -> NextSaid
     requires { Ready from (length chunk.old) }
     ensures ready { Ready result.next (length chunk.new) }
     ensures value { let here = standing (take from.end chunk.old) from.at in
@@ -147,7 +161,7 @@ pub fn next_said(chunk: &mut [u8], line: &mut [u8], from: Input) -> NextSaid
             },
         };
     }
-    let got = next_line(chunk, line, from);
+    let got = next_line(source, chunk, line, from);
     let len = got.len;
     let next = got.next;
     NextSaid {

@@ -4,8 +4,7 @@
 -- `rate_of`, `start_of`, `append_of`, `read_of` and `accept_of` say, for every argument: their contracts have no premise, and the prover
 -- shows
 -- that they end. Assumes nothing.
-use Rattle.std.specs.Prelude.{true, cond, List, [], ◌∷◌, ◌++◌, ◌≡◌, ℕ, ◌+◌, ◌-◌, ◌≤◌, ◌<◌, eqb, length, take, drop, replicate}
-use Rattle.std.proofs.Common.{ap}
+use Rattle.std.specs.Prelude.{true, cond, List, [], ◌∷◌, ◌++◌, ◌≡◌, ℕ, ◌+◌, ◌-◌, ◌≤◌, eqb, length, take, drop, replicate}
 use Rattle.bools.specs.First.{or_refused}
 use Rattle.exact.specs.Fraction.{whole, ◌≤F◌, ◌<F◌}
 use Rattle.splice.specs.Splice.{splice}
@@ -13,7 +12,7 @@ use Rattle.rating.specs.Chosen.{Chosen}
 use Rattle.rating.specs.Arrangements.{own}
 use Rattle.rating.specs.Allowed.{Allowed}
 use Rattle.rating.specs.Refusals.{refusals_of}
-use Rattle.rating.specs.Rate.{refused, rated, rate_of}
+use Rattle.rating.specs.Rate.{rated, rate_of}
 use Rattle.rating.specs.Exact.{exact_rise, permitted_of}
 use Rattle.rating.specs.Laws.Logarithms.{lowest}
 use Rattle.book_laws.specs.Bytes.{below, words_at}
@@ -21,9 +20,6 @@ use Rattle.book_laws.specs.Layout.{record_fields, record_length, trailer_length}
 use Rattle.book_laws.specs.Format.{record_bytes, trailer_bytes}
 use Rattle.book_laws.specs.Record.{place_from, first_disagreeing}
 use Rattle.book_laws.specs.Refusals.{start_refusals, trailer_of, append_refusals, read_refusals, accept_refusals}
-use Rattle.book_laws.specs.Start.{Written, unwritten}
-use Rattle.book_laws.specs.Read.{unread}
-use Rattle.book_laws.specs.Accept.{unaccepted}
 use Rattle.book_laws.specs.Build.{all_cases}
 use Rattle.book_laws.specs.Book.{
   layout_of,

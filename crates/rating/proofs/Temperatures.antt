@@ -1,7 +1,7 @@
 -- A word that was read as a temperature, `signed` of the stages: what is read back of it as an i64, and of a difference of two.
 -- Assumes nothing.
 use Rattle.std.proofs.Common.{◌≡◌, ap₂, ℕ, zero, suc, ◌≤◌, ◌<◌, arith, ℤ, pos, negsuc, neg_ℤ, ◌-ℤ◌, w32, to_z, SFits}
-use lib.Signed.{mag}
+use Rattle.std.specs.Int.Signed.{mag}
 use mir.ValLaws.{to_z-Fits}
 use Rattle.stages.proofs.Signed.{Is, read, read_as, mag_sum}
 

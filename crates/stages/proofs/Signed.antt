@@ -1,10 +1,11 @@
 -- Signed arithmetic on an i64. A signed operation writes its number as bits and the next one reads them back, so the laws here
 -- say what is read back, and that a sum and a product are small where their operands are. Assumes nothing.
 use Rattle.std.proofs.Common.{◌≡◌, ap, ◌∙◌, Bool, true, false, cond, ℕ, zero, suc, ◌+◌, ◌-◌, ◌*◌, ◌≤◌, arith, ltb, ℤ, pos, negsuc}
-use Rattle.std.proofs.Common.{neg_ℤ, ◌+ℤ◌, ◌*ℤ◌, w64, to_z, of_z, SFits, to_z-of_z}
+use Rattle.std.proofs.Common.{neg_ℤ, ◌+ℤ◌, ◌*ℤ◌, w64, to_z, of_z, SFits}
 use Rattle.std.proofs.Math.Path.{subst⁻¹}
 use Rattle.std.proofs.Math.IntN.{sub_ℕ}
-use lib.Signed.{mag}
+use Rattle.std.specs.Int.Signed.{mag}
+use Rattle.std.proofs.lemmas.Int.{to_z-of_z}
 
 -- what is read back of the bits of z
 abbrev pub read : ℤ → ℤ

@@ -1,9 +1,9 @@
 -- Accept accepts a book where it is an accepted one, and only there; and how large the count of a book is, accepted or not.
 -- Assumes nothing.
+use Rattle.std.proofs.Common.{arith}
 use Rattle.std.specs.Prelude.{Bool, true, false, cond, List, ◌≡◌, ℕ, ◌+◌, ◌*◌, ◌≤◌, length}
 use Rattle.std.proofs.Math.Path.{refl}
 use Rattle.std.proofs.Common.{◌∙◌, suc-ne-zero}
-use native.Mathlib.Omega.{arith}
 use Rattle.book_laws.specs.Layout.{Layout, record_length}
 use Rattle.book_laws.specs.Trailer.{describe_in}
 use Rattle.book_laws.specs.Record.{all_agree}

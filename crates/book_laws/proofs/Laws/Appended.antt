@@ -1,10 +1,9 @@
 -- Demand 2 for any accepted book, however it was made: cases appended to it without refusal read back after its own, and the book is
 -- accepted. Assumes nothing.
+use Rattle.std.proofs.Common.{List, [], ◌∷◌, ◌++◌, ℕ, ◌+◌, ◌-◌, ◌*◌, ◌≤◌}
 use Rattle.std.specs.Prelude.{true, ◌≡◌, ltb, leb}
-use mathlib.Core.List.{List, [], ◌∷◌, ◌++◌}
 use Rattle.std.proofs.Math.Path.{refl, sym, ap}
 use Rattle.std.proofs.Common.{subst, ◌∙◌, arith, take-append-drop}
-use Prim.Native.Nat.{ℕ, ◌+◌, ◌-◌, ◌*◌, ◌≤◌}
 use Rattle.std.proofs.Math.ListN.{length, take, length-append, get_or-append}
 use Rattle.std.proofs.lemmas.List.{get_or_at}
 use Rattle.splice.specs.Splice.{splice}

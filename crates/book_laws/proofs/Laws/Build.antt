@@ -1,14 +1,13 @@
 -- Building a book from cases: where it fits it is not refused, and what it leaves is the book of these cases; where it is not refused, it
 -- fits. Assumes nothing.
+use Rattle.std.proofs.Common.{List, [], ◌∷◌, ◌++◌, append_assoc, append-nil, ℕ, ◌+◌, ◌-◌, ◌*◌, ◌≤◌, arith, le-ltb, eqb-true, ltb-false}
+use Rattle.std.proofs.Common.{leb-false}
+use Rattle.std.proofs.lemmas.Bool.{lt-leb}
 use Rattle.std.specs.Prelude.{Bool, true, false, cond, ◌&&◌, ◌≡◌, eqb, ltb, leb}
-use mathlib.Core.List.{List, [], ◌∷◌, ◌++◌, append_assoc, append-nil}
 use Rattle.std.proofs.Math.Path.{refl, sym, ap, ap₂, subst}
 use Rattle.std.proofs.Common.{◌∙◌, suc-ne-zero, zero-add, mul-le-mul_left}
-use Prim.Native.Nat.{ℕ, ◌+◌, ◌-◌, ◌*◌, ◌≤◌}
-use native.Mathlib.Omega.{arith}
 use Rattle.std.proofs.Math.ListN.{length, length-append}
 use Rattle.std.proofs.Math.Seq.{append_snoc}
-use borrow.Author.Tests.{le-ltb, lt-leb, eqb-true, ltb-false, leb-false}
 use Rattle.bools.proofs.Laws.Tests.{both, passed}
 use Rattle.splice.specs.Splice.{splice}
 use Rattle.splice.proofs.Laws.Splice.{splice_over}

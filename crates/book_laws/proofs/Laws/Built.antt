@@ -1,12 +1,10 @@
 -- A book of given cases as it stands in a buffer: the note, the records, the trailer, and what stands behind. Its trailer tells the count
 -- and the note's length. Assumes nothing.
+use Rattle.std.proofs.Common.{List, ◌++◌, append_assoc, arith, le-ltb, eq-eqb}
 use Rattle.std.specs.Prelude.{true, false, ◌≡◌, ℕ, ◌+◌, ◌-◌, ◌*◌, ◌≤◌}
-use mathlib.Core.List.{List, ◌++◌, append_assoc}
 use Rattle.std.proofs.Math.Path.{refl, sym, ap}
 use Rattle.std.proofs.Common.{ap₂, ◌∙◌, length-take-le}
-use native.Mathlib.Omega.{arith}
 use Rattle.std.proofs.Math.ListN.{length, take, drop, length-append}
-use borrow.Author.Tests.{le-ltb, eq-eqb}
 use Rattle.splice.specs.Splice.{splice}
 use Rattle.splice.proofs.Laws.Splice.{splice_length}
 use Rattle.book_laws.specs.Bytes.{number_bytes, number_at, word_bytes, stands, below}

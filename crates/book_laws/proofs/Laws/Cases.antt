@@ -1,16 +1,15 @@
 -- The cases of the records that stand in a book: as many as are counted, each one a case where the buffer is of bytes, and each one as
 -- `read` answers it. Assumes nothing.
+use Rattle.std.proofs.Common.{List, [], ◌∷◌, ◌++◌, ℕ, zero, suc, ◌+◌, ◌≤◌, ◌<◌, eqb-true, eq-eqb, lt-ltb}
+use Rattle.std.proofs.lemmas.Bool.{eqb-false, lt-leb}
 use Rattle.std.specs.Prelude.{Bool, ◌≡◌, length, take}
 use Rattle.std.proofs.Math.Bool.{true, false, ◌&&◌}
-use mathlib.Core.List.{List, [], ◌∷◌, ◌++◌}
 use Rattle.std.proofs.Math.Path.{refl, sym, ap, ap₂}
 use Rattle.std.proofs.Common.{◌∙◌, arith, take_at}
-use Prim.Native.Nat.{ℕ, zero, suc, ◌+◌, ◌≤◌, ◌<◌}
 use Rattle.std.proofs.Math.Numerals.{add-one}
 use Rattle.std.proofs.Math.Dec.{eqb}
 use Rattle.std.proofs.Math.ListN.{get_or, length-append, get_or-append}
 use Rattle.std.proofs.Math.Seq.{get_or_at}
-use borrow.Author.Tests.{eqb-true, eqb-false, eq-eqb, lt-ltb, lt-leb}
 use Rattle.book_laws.specs.Bytes.{word_at, words_at, below}
 use Rattle.book_laws.specs.Layout.{Layout, record_fields}
 use Rattle.book_laws.specs.Format.{fields_of}

@@ -1,10 +1,11 @@
 -- The first record that disagrees: where not all of a book's records agree there is one, all before it agree, and it is the record at which
 -- a walk from the first one on stops. So what refusal 23 names is this record. Assumes nothing.
+use Rattle.std.proofs.Common.{ltb-true, ltb-false}
+use Rattle.std.proofs.lemmas.Bool.{not-true, not-false}
 use Rattle.std.specs.Prelude.{Bool, true, false, List, ◌≡◌, ℕ, ◌+◌, ◌-◌, ◌<◌, ltb}
 use Rattle.std.proofs.Math.Bool.{not}
 use Rattle.std.proofs.Math.Path.{ap}
 use Rattle.std.proofs.Common.{◌∙◌, arith}
-use borrow.Author.Tests.{not-true, not-false, ltb-true, ltb-false}
 use Rattle.bools.proofs.Laws.Tests.{by_outcome, other_outcome}
 use Rattle.bools.proofs.Laws.Earliest.{earliest_passes, none_before, earliest_only}
 use Rattle.book_laws.specs.Layout.{Layout}

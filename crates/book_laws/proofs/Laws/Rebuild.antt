@@ -1,7 +1,7 @@
 -- Demand 2: an accepted book, built again from its note and its cases, has the same used length and the same bytes, and nothing is
 -- refused on the way. Assumes nothing.
+use Rattle.std.proofs.Common.{List, [], ◌∷◌, ◌++◌, append-nil}
 use Rattle.std.specs.Prelude.{true, ◌≡◌, ℕ, zero, suc, ◌+◌, ◌-◌, ◌*◌, ◌≤◌}
-use mathlib.Core.List.{List, [], ◌∷◌, ◌++◌, append-nil}
 use Rattle.std.proofs.Math.Path.{sym, ap, ap₂}
 use Rattle.std.proofs.Common.{◌∙◌, arith, take-add}
 use Rattle.std.proofs.Math.ListN.{length, take, drop}

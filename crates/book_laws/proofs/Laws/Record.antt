@@ -1,12 +1,12 @@
 -- Records: their lengths, that a written record reads back as its fields, and that a record agrees where it has the fields of its case.
 -- Assumes nothing.
+use Rattle.std.proofs.Common.{ℕ, zero, suc, ◌+◌, ◌*◌, ◌<◌, eqb-true, eq-eqb, lt-ltb}
+use Rattle.std.proofs.lemmas.Bool.{eqb-false}
 use Rattle.std.specs.Prelude.{Bool, List, [], ◌∷◌, ◌++◌, ◌≡◌, length, get_or, take, drop}
 use Rattle.std.proofs.Math.Bool.{true, false, ◌&&◌}
 use Rattle.std.proofs.Common.{append_assoc, sym, ◌∙◌, add-one, arith, length-append, take_at, drop_at}
 use Rattle.std.proofs.Math.Path.{refl, ap, ap₂}
-use Prim.Native.Nat.{ℕ, zero, suc, ◌+◌, ◌*◌, ◌<◌}
 use Rattle.std.proofs.Math.Dec.{eqb}
-use borrow.Author.Tests.{eqb-true, eqb-false, eq-eqb, lt-ltb}
 use Rattle.bools.proofs.Laws.Tests.{both}
 use Rattle.book_laws.specs.Bytes.{word_at, words_at, words_bytes, below}
 use Rattle.book_laws.specs.Layout.{Layout, record_fields, record_length}
@@ -162,8 +162,9 @@ module _ (l : Layout) (b : List ℕ) (first : ℕ) where
   unfolding all_agree
   all_agree_none = refl
 
-  pub all_agree_next : (n : ℕ) → all_agree l b first n ≡ true → agrees l b (place_from l first n) ≡ true →
-  all_agree l b first (n + 1) ≡ true
+  pub all_agree_next :
+      (n : ℕ) → all_agree l b first n ≡ true → agrees l b (place_from l first n) ≡ true →
+      all_agree l b first (n + 1) ≡ true
   unfolding all_agree
   all_agree_next n so_far agreed = ap (all_agree l b first) (add-one n) ∙ ap₂ ◌&&◌ so_far agreed
 

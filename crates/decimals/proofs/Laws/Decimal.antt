@@ -1,10 +1,10 @@
 -- Laws of `decimal`: its two cases, an induction by them, how many digits a number has, its digits at a fixed count, and its
 -- digits cut in two. Assumes nothing.
+use Rattle.std.proofs.Common.{ℕ, zero, suc, ◌+◌, ◌-◌, ◌*◌, ◌/◌, ◌%◌, ◌^◌, ◌≤◌, ◌<◌}
 use Rattle.std.specs.Prelude.{Bool, true, false, List, [], ◌∷◌, ◌++◌, ◌≡◌, refl, ◌⊎◌, ltb, length}
 use Rattle.std.proofs.Common.{append_assoc, append-nil, sym, subst, ◌∙◌, inl, inr, ⊎_elim, pow-suc, lt_trans, div-one, add-zero}
 use Rattle.std.proofs.Common.{add-suc, add-one, arith, lt-ltb, le-ltb, ltb-true, ltb-false, lit<, length-append}
 use Rattle.std.proofs.Math.Path.{ap}
-use Prim.Native.Nat.{ℕ, zero, suc, ◌+◌, ◌-◌, ◌*◌, ◌/◌, ◌%◌, ◌^◌, ◌≤◌, ◌<◌}
 use Rattle.std.proofs.Math.Nat.{div-div-eq-div-mul, div-mul-le_self, mod-eq-sub-div-mul, one-le-pow}
 use Rattle.decimals.specs.Decimal.{digits, decimal, padded, spaced}
 

@@ -1,9 +1,9 @@
 -- How errors weaken, follow on one another and pass through sums, products and quotients. Measured against the larger value, relative
 -- errors simply add under products and quotients, with no second-order terms. Assumes nothing.
+use Rattle.std.proofs.Common.{arith}
 use Rattle.std.specs.Prelude.{◌≡◌, ℕ, ◌+◌, ◌*◌, ◌≤◌, ◌<◌}
 use Rattle.std.proofs.Common.{ap₂, le_refl, lit<}
 use Rattle.std.proofs.Math.Nat.{mul-pos, mul-le-mul_right, lt_of_mul-lt-mul_left}
-use native.Mathlib.Omega.{arith}
 use Rattle.exact.specs.Fraction.{Fraction, ◌over◌, whole, ◌+F◌, ◌*F◌, reciprocal, ◌/F◌, ◌≤F◌, ◌≃F◌}
 use Rattle.exact.proofs.Laws.Fraction.{≤F_refl, ≤F_trans, ≃F→≤F, ≃F_sym, +F_mono, *F_mono, reciprocal_anti, +F_assoc, *F_comm}
 use Rattle.exact.specs.Error.{parts, Within}

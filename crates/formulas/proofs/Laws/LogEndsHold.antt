@@ -1,11 +1,10 @@
 -- Stage 5's ends, without their octaves, enclose T times 2 artanh ζ: every sum of exact terms is at most the upper end, and every
 -- such sum with its rest is at least the lower one. So the rounded series may stand for the logarithm itself, of which these sums
 -- and rests are all that can be said in fractions. Assumes nothing.
+use Rattle.std.proofs.Common.{ℕ, zero, suc, ◌+◌, ◌-◌, ◌*◌, ◌^◌, ◌≤◌, ◌<◌, arith}
 use Rattle.std.specs.Prelude.{◌≡◌}
 use Rattle.std.proofs.Common.{ap, ◌∙◌, pow-suc, one-mul, add_comm, mul-le-mul}
-use Prim.Native.Nat.{ℕ, zero, suc, ◌+◌, ◌-◌, ◌*◌, ◌^◌, ◌≤◌, ◌<◌}
 use Rattle.std.proofs.Math.Nat.{pow-zero, mul-pos, mul-le-mul_left, mul-le-mul_right, le_of_mul-le-mul_left}
-use native.Mathlib.Omega.{arith}
 use Rattle.std.proofs.Math.Dec.{lit<}
 use Rattle.exact.specs.Rounding.{up, down}
 use Rattle.exact.proofs.Laws.Rounding.{up_above, down_below}

@@ -1,10 +1,9 @@
 -- The sums of the exact terms of 2 artanh x rise with the number of terms, and no sum passes another by more than the rest that
 -- `artanh_rest` states for it, where x is below 1. So a sum of any length speaks for those of all lengths. Assumes nothing.
+use Rattle.std.proofs.Common.{ℕ, zero, suc, ◌+◌, ◌-◌, ◌*◌, ◌^◌, ◌≤◌, ◌<◌, arith}
 use Rattle.std.specs.Prelude.{◌≡◌}
 use Rattle.std.proofs.Common.{sym, ap, ap₂, ◌∙◌, add-zero, zero-add, mul-le-mul_left, add-one, pow-add}
-use Prim.Native.Nat.{ℕ, zero, suc, ◌+◌, ◌-◌, ◌*◌, ◌^◌, ◌≤◌, ◌<◌}
 use Rattle.std.proofs.Math.Nat.{mul-pos, one-le-pow, pow-lt-pow_left}
-use native.Mathlib.Omega.{arith}
 use Rattle.std.proofs.Math.Dec.{lit<}
 use Rattle.exact.specs.Fraction.{Fraction, ◌over◌, whole, ◌+F◌, ◌*F◌, reciprocal, ◌≤F◌}
 use Rattle.exact.proofs.Laws.Fraction.{≤F_refl, ≤F_trans, +F_mono, +F_comm, +F_assoc}

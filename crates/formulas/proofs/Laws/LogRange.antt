@@ -1,11 +1,10 @@
 -- How large stage 5's ends get: each is at most 18.4 T where a/b is below 2^15, and the lower one is at least 0.048 T where a/b is
 -- 1.05 or more, so that stage 9 does not divide by too little. Assumes nothing.
+use Rattle.std.proofs.Common.{ℕ, zero, suc, ◌+◌, ◌*◌, ◌^◌, ◌≤◌, ◌<◌, arith}
 use Rattle.std.specs.Prelude.{◌≡◌, refl}
 use Rattle.std.proofs.Common.{ap, ◌∙◌, le-add_right, one-mul, mul-le-mul, lt_of_mul-lt-mul_right, lt_of_le_of_lt, lt_of_not-le, lit<}
 use Rattle.std.proofs.Common.{lit≤, pow_mono}
-use Prim.Native.Nat.{ℕ, zero, suc, ◌+◌, ◌*◌, ◌^◌, ◌≤◌, ◌<◌}
 use Rattle.std.proofs.Math.Nat.{le_trans}
-use native.Mathlib.Omega.{arith}
 use Rattle.exact.specs.Rounding.{up, down}
 use Rattle.exact.proofs.Laws.Rounding.{up_least, down_most, down_most_above}
 use Rattle.exact.specs.Trillion.{trillion}

@@ -1,8 +1,8 @@
 -- Arrangement 6: the cores lie within their sheath, which bounds what its eddies lose, and S is close to its exact value. Assumes nothing.
+use Rattle.std.proofs.Common.{leb-true}
 use Rattle.std.proofs.lemmas.Bool.{false≢true}
 use Rattle.std.specs.Prelude.{List, ℕ, ◌*◌, ◌≤◌, ◌<◌, leb}
 use Rattle.std.proofs.Common.{le_trans, arith, lit≤}
-use borrow.Author.Tests.{leb-true}
 use Rattle.bools.proofs.Laws.Tests.{both}
 use Rattle.exact.specs.Fraction.{whole}
 use Rattle.exact.proofs.Laws.Fraction.{whole_mono}

@@ -1,8 +1,8 @@
 -- Demand 3 for a case: whichever fractions stand for pi, ln 2 and the logarithms, the exact rise at the rating is at most the permitted
 -- rise, and at 2 mA more, or 1 mA and a ten-millionth of the rating, it is above. The premise is that the case is rated. Assumes nothing.
+use Rattle.std.proofs.Common.{ltb-false}
 use Rattle.std.specs.Prelude.{◌≡◌, List, ℕ, ◌+◌, ◌*◌, ◌^◌, ◌≤◌, ◌<◌}
 use Rattle.std.proofs.Common.{lt_of_not-le, mul-le-mul, arith}
-use borrow.Author.Tests.{ltb-false}
 use Rattle.bools.proofs.Laws.Tests.{neither, not_both}
 use Rattle.exact.specs.Fraction.{◌over◌, whole, ◌≤F◌, ◌<F◌}
 use Rattle.formulas.specs.Refusals.{skin_refused, eddy_refused, dielectric_refused, current_refused}

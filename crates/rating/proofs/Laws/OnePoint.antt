@@ -1,8 +1,8 @@
 -- Arrangements 3 and 4: refusal 9 bounds what the eddies lose, and S is close to its exact value. Assumes nothing.
+use Rattle.std.proofs.Common.{leb-true}
 use Rattle.std.proofs.Math.Path.{refl}
 use Rattle.std.specs.Prelude.{List, ℕ, ◌*◌, ◌≤◌}
 use Rattle.std.proofs.Common.{arith, lit≤}
-use borrow.Author.Tests.{leb-true}
 use Rattle.exact.specs.Fraction.{whole}
 use Rattle.exact.proofs.Laws.Fraction.{whole_mono}
 use Rattle.exact.specs.Error.{Within}

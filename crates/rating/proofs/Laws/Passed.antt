@@ -4,7 +4,6 @@ use Rattle.std.proofs.Common.{sym, ◌∙◌, ap, suc-ne-zero, eqb-true}
 use Rattle.std.proofs.lemmas.Bool.{eqb-false}
 use Rattle.bools.proofs.Laws.Tests.{passed}
 use Rattle.formulas.specs.Refusals.{skin_refused, eddy_refused, dielectric_refused, current_refused}
-use Rattle.formulas.proofs.Laws.CloseRise as Law
 use Rattle.rating.specs.Values.{Rs, B, zs, zp, rise_of}
 use Rattle.rating.specs.Arrangements.{own}
 use Rattle.rating.specs.FieldRefusals.{field_refusal}

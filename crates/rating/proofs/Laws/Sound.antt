@@ -1,15 +1,13 @@
 -- What a case promises once none of refusals 1 to 7 is given: each limit and each relation that every arrangement asks for as a fact,
 -- which the stages and the bounds on them take. What an arrangement asks for besides stays a test, which its own laws open. Assumes
 -- nothing.
-use Rattle.std.specs.Prelude.{◌≡◌, refl, Bool, true, false, cond, not, List, ℕ, suc, ◌*◌, ◌≤◌, T, leb, ℤ, pos, neg_ℤ, ◌-ℤ◌, ◌≤ℤ◌}
+use Rattle.std.specs.Prelude.{◌≡◌, refl, Bool, true, false, cond, not, List, ℕ, suc, T, leb, ℤ, ◌≤ℤ◌}
 use Rattle.std.proofs.Math.Path.{subst⁻¹}
 use Rattle.std.proofs.Common.{true≢false, suc-ne-zero, leb-true}
 use Rattle.std.specs.Int.Signed.{le_z, le_z_yes}
 use Rattle.bools.proofs.Laws.Tests.{both}
 use Rattle.formulas.specs.Laws.Ranges.{In}
-use Rattle.fields.specs.Fields as Field
 use Rattle.rating.specs.Within.{within, within_z}
-use Rattle.rating.specs.Arrangements.{own}
 use Rattle.rating.specs.FieldRefusals.{
   arrangement_refused,
   conductor_refused,

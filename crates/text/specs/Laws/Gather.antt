@@ -1,11 +1,10 @@
 -- A line that is gathered piece by piece in a room of fixed size: what is kept is the start of the whole line, and as much of it as
 -- fills the room is enough to read it. Assumes nothing.
+use Rattle.std.proofs.Common.{List, [], ◌∷◌, ◌++◌, arith}
 use Rattle.std.specs.Prelude.{Bool, true, false, ◌≡◌, refl, ℕ, zero, suc, ◌+◌, ◌-◌, ◌≤◌, ◌<◌, ltb, drop}
-use mathlib.Core.List.{List, [], ◌∷◌, ◌++◌}
 use Rattle.std.proofs.Math.Path.{sym, ap}
 use Rattle.std.proofs.Common.{◌∙◌, lt-ltb, ltb-true, ltb-false, length-append, take_all, length-take-le}
 use Rattle.std.proofs.Math.Nat.{zero-sub, sub-zero, suc-sub-suc}
-use native.Mathlib.Omega.{arith}
 use Rattle.std.proofs.Math.ListN.{length, take, length-take}
 use Rattle.std.proofs.Math.Seq.{take_at, take-nil}
 use Rattle.text.specs.Gather.{piece, line_room, kept, Holds}

@@ -1,9 +1,9 @@
 -- Digits that stand in a line from one place to another: how a loop that reads them goes on by one, and that they are a word, and what
 -- it says, where no word goes on after them; what the code hands on of a word. Assumes nothing.
+use Rattle.std.proofs.Common.{le-leb, ne_eqb, ltb-true, leb-true}
 use Rattle.std.specs.Prelude.{Bool, true, List, [], ◌∷◌, ◌≡◌, refl, ℕ, ◌+◌, ◌-◌, ◌*◌, ◌^◌, ◌≤◌, ◌<◌, leb, ltb, length, get_or, drop}
 use Rattle.std.proofs.Common.{sym, ap, ◌∙◌, le_refl, lt_of_lt_of_le, pow-suc, add-one, arith, lit<}
 use Rattle.std.proofs.Math.Nat.{pow-le-pow_right}
-use borrow.Author.Tests.{le-leb, ne_eqb, ltb-true, leb-true}
 use Rattle.bools.proofs.Laws.Tests.{both}
 use Rattle.text.specs.declared.number.Reading.{Reading}
 use Rattle.text.specs.declared.number.Reading.TheVariants.{Number}

@@ -1,13 +1,12 @@
 -- A line of numbers and blanks: its first word is read and what follows it is left, a blank in front is passed over, and the numbers
 -- alone decide what the line says, also with a carriage return at its end. Assumes nothing.
+use Rattle.std.proofs.Common.{List, [], ◌∷◌, ◌++◌, arith, le-ltb, ne_eqb}
+use Rattle.std.proofs.lemmas.Bool.{not-true}
 use Rattle.std.specs.Prelude.{Bool, true, false, ◌||◌, ◌≡◌, ℕ, zero, suc, ◌+◌, ◌-◌, ◌≤◌, ◌<◌, eqb, get_or}
 use Rattle.std.proofs.lemmas.Bool.{false≢true}
 use Rattle.std.proofs.Math.Bool.{or-true}
-use mathlib.Core.List.{List, [], ◌∷◌, ◌++◌}
 use Rattle.std.proofs.Math.Path.{refl}
 use Rattle.std.proofs.Common.{sym, ap, ◌∙◌}
-use native.Mathlib.Omega.{arith}
-use borrow.Author.Tests.{le-ltb, ne_eqb, not-true}
 use Rattle.std.proofs.Math.ListN.{length, length-append}
 use Rattle.std.proofs.Math.Seq.{take-append_seam, drop-append_seam, get_or-append_seam, take-length}
 use Rattle.bools.proofs.Laws.Tests.{both}

@@ -1,7 +1,6 @@
 -- `book::accept::accept` meets its contract. The invariant: the records before those that are left to judge agree. The measure is how many
 -- are left. Assumes nothing.
 use Rattle.std.proofs.Common.{List, ap, arith, false, sym, true, ℕ, ◌+◌, ◌-◌, ◌<◌, ◌∙◌, ◌≡◌}
-use Rattle.std.proofs.lemmas.Bool.{not-true, not-false}
 use Rattle.book_laws.specs.Layout.{rbk1}
 use Rattle.book_laws.specs.Record.{place_from, agrees, all_agree}
 use Rattle.book_laws.specs.Accept.{unaccepted, accept_after, accept_in}

@@ -1,6 +1,5 @@
 -- `book_bytes::trailer::describe_at` meets its contract: 21 for another mark, 22 for another field, else the description. Assumes nothing.
 use Rattle.std.proofs.Common.{List, false, sym, true, ℕ, ◌+◌, ◌-◌, ◌∙◌, ◌≡◌}
-use Rattle.std.proofs.lemmas.Bool.{not-true, not-false}
 use Rattle.book_laws.specs.Bytes.{word_at, stands}
 use Rattle.book_laws.specs.Layout.{rbk1}
 use Rattle.book_laws.specs.Trailer.{undescribed, wrong_trailer, describe_at}

@@ -1,7 +1,7 @@
 -- `difference` is the definition: the difference is above 0, so that it needs no sign.
 use Rattle.std.proofs.Common.{Fits, T, ap, arith, nat_abs, to_z, w32, w64, ℤ, ◌-ℤ◌, ◌<◌}
 use Rattle.std.proofs.Math.Path.{subst⁻¹}
-use lib.Signed.{non_neg}
+use Rattle.std.specs.Int.Signed.{non_neg}
 use Rattle.stages.proofs.Signed.{Is, read, fits_as, read_as}
 use Rattle.rating.proofs.Temperatures.{difference_is}
 use Rattle.rating.specs.Laws.Rise.{RiseRange}

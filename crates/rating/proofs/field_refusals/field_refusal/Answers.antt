@@ -1,6 +1,6 @@
 -- `field_refusal` is the definition: from the last refusal to the first, each decides before those after it. Refusal 1 is not given to an
 -- arrangement.
-use Rattle.std.proofs.Common.{Bool, ap, ap₂, cond, not, refl, rules, sym, ℕ, ◌∙◌, ◌≡◌}
+use Rattle.std.proofs.Common.{Bool, ap, ap₂, cond, not, refl, sym, ℕ, ◌∙◌, ◌≡◌}
 use Rattle.rating.specs.FieldRefusals.{arrangement_refused, stray_refused, metal_refused, field_refusal}
 use Rattle.rating.proofs.field_refusals.field_refusal.Goals as goal
 

@@ -1,6 +1,6 @@
 -- `not_hotter` is the order of the two temperatures, read as two's complement.
 use Rattle.std.proofs.Common.{ap₂, arith, ◌<◌}
-use lib.Signed.{le_z}
+use Rattle.std.specs.Int.Signed.{le_z}
 use Rattle.rating.proofs.Temperatures.{read_word}
 use Rattle.rating.proofs.field_refusals.not_hotter.Goals as goal
 

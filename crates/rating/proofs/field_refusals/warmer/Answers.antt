@@ -1,6 +1,6 @@
 -- `warmer` is the definition's test: the difference of two words fits an i64.
 use Rattle.std.proofs.Common.{ap, arith, pos, to_z, w32, ◌-ℤ◌, ◌<◌}
-use lib.Signed.{le_z}
+use Rattle.std.specs.Int.Signed.{le_z}
 use Rattle.stages.proofs.Signed.{Is, read, fits_as, read_as}
 use Rattle.rating.proofs.Temperatures.{difference_is}
 use Rattle.rating.proofs.field_refusals.warmer.Goals as goal

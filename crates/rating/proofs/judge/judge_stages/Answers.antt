@@ -10,7 +10,6 @@ use Rattle.rating.specs.Values.{R', Rs, B, zs, zp}
 use Rattle.rating.specs.Arrangements.{own}
 use Rattle.rating.specs.FieldRefusals.{field_refusal}
 use Rattle.rating.specs.Rate.{loaded, judged, rate_of, rate_of_is}
-use Rattle.rating.specs.Laws.Sound.{Sound}
 use Rattle.rating.proofs.Laws.Sound.{sound}
 use Rattle.rating.specs.Laws.Fit.{Fit}
 use Rattle.rating.proofs.Laws.Ranges.{B_range}

@@ -1,5 +1,5 @@
 -- `rate` is the definition: the kind that the number picks is its arrangement's, and a number that picks none is refused by 1.
-use Rattle.std.proofs.Common.{List, ap, arith, cond, eqb, lit≤, ℕ, ⊎_elim, ◌∙◌, ◌≡◌}
+use Rattle.std.proofs.Common.{List, ap, arith, cond, eqb, lit≤, ℕ, ◌∙◌, ◌≡◌}
 use Rattle.std.proofs.Math.Path.{subst⁻¹}
 use Rattle.rating.specs.declared.arrangement.Kind.{Kind}
 use Rattle.rating.specs.Arrangements.{no_arrangement, arrangement_of, own}

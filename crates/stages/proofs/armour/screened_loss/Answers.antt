@@ -1,5 +1,5 @@
 -- `stages::armour::screened_loss` is the definition: v2, the screening, and the loss that it leaves.
-use Rattle.std.proofs.Common.{ap, arith, lit<, mul-le-mul, ℕ, ◌*◌, ◌+◌, ◌∙◌, ◌≡◌, ◌≤◌}
+use Rattle.std.proofs.Common.{ap, arith, lit<, mul-le-mul, ◌*◌, ◌+◌, ◌∙◌, ◌≡◌, ◌≤◌}
 use Rattle.exact.specs.Rounding.{up}
 use Rattle.exact.specs.Trillion.{trillion}
 use Rattle.formulas.specs.Constants.{tera}

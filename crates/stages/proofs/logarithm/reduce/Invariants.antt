@@ -1,7 +1,6 @@
 -- `stages::logarithm::reduce` meets its contract. The loop's invariant: `doubled` is b doubled as often as counted, at most a, and
 -- above the count. So the count fits, and at the end it is the largest. Assumes nothing.
 use Rattle.std.proofs.Common.{ℕ, ◌*◌, ◌-◌, ◌<◌, ◌^◌, ◌≡◌, ◌≤◌}
-use Rattle.formulas.specs.Logarithm.{octaves, doubled}
 use Rattle.stages.proofs.logarithm.reduce.Given as goal
 
 pub record Passed (a b count doubled : ℕ) : Type 0 where

@@ -1,6 +1,7 @@
 // The functions of `wide` under C's calling convention, for programs in other languages.
 // Nothing here tests a `requires`: the caller does, before each call, as twin/measure/wide.rs does.
 #![tactic(auto)]
+
 ghost use Rattle.std.specs.Prelude.{◌≡◌, ◌*◌, ◌^◌, ◌<◌};
 ghost use Rattle.exact.specs.Root.{IsRoot};
 ghost use Rattle.exact.specs.Rounding.{up, down};

@@ -6,7 +6,7 @@
 // per case over the library's, then both in ns; the library's `rate` stands
 // beside the program rate, its `accept` beside list. Line `rate-memory`: the
 // most memory, in KiB, that rate has held after 1,000 and after 1,000,000 lines.
-// usage, from the repository's root, with the programs in target/bin: programs [SEED]
+// usage, from the repository's root, with the programs in crates/NAME/out: programs [SEED]
 
 // Only `rate` and `accept` are called here.
 #[allow(dead_code)]
@@ -30,8 +30,8 @@ use twin::lines::{answer_line, case_line};
 use twin::listing::listing;
 use twin::rating::Words;
 
-const RATE: &str = "target/bin/rate";
-const LIST: &str = "target/bin/list";
+const RATE: &str = "crates/rate/out/rate";
+const LIST: &str = "crates/list/out/list";
 const INPUTS: &str = "target/bench";
 
 const ROUNDS: usize = 31;

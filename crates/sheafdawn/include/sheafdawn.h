@@ -1,4 +1,4 @@
-/* Sheafdawn's proved rating and book, for C. Link libsheafdawn.a, which `rt staticlib sheafdawn` writes.
+/* Sheafdawn's proved rating and book, for C. Link libsheafdawn.a, which `rt lib` in crates/sheafdawn writes.
  *
  * Each function answers 0 or a refusal's number (docs/CLAIMS.md says what is proved of it), or SHEAFDAWN_WRONG_LENGTH where a length that
  * is passed is not the one named here; then nothing is written. A pointer and the length after it must belong together, as everywhere in C.

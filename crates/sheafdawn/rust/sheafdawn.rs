@@ -1,5 +1,5 @@
-// Sheafdawn's proved rating and book, for Rust: safe functions over the static library libsheafdawn.a, which `rt staticlib sheafdawn` writes. Every
-// slice passed to it has the length that it asks for, so that it never answers that a length is wrong.
+// Sheafdawn's proved rating and book, for Rust: safe functions over the static library libsheafdawn.a, which `rt lib` in crates/sheafdawn
+// writes. Every slice passed to it has the length that it asks for, so that it never answers that a length is wrong.
 #![allow(dead_code)] // a program needs some of what is here, not all
 
 /// The words of a case, in the order of docs/FIELDS.md; temperatures as two's complement.

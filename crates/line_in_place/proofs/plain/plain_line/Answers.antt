@@ -1,7 +1,7 @@
 -- `line_in_place::plain::plain_line` meets its contract. The invariant: the numbers read so far are a row, and each took twelve bytes at
 -- most. The measure is the count of numbers that are left before the last.
 -- Assumes nothing.
-use Rattle.std.proofs.Common.{Bool, List, [], add-one, ap, arith, cond, eqb, false, get_or, le_refl, length, length-set, lit≤, refl}
+use Rattle.std.proofs.Common.{rules, Bool, List, [], add-one, ap, arith, cond, eqb, false, get_or, le_refl, length, length-set, lit≤, refl}
 use Rattle.std.proofs.Common.{set, subst, suc, sym, take, take-suc-set, take_all, true, ℕ, ◌++◌, ◌+◌, ◌<◌, ◌∙◌, ◌∷◌, ◌≡◌, ◌≤◌}
 use Rattle.bools.proofs.Laws.Tests.{other_outcome}
 use Rattle.line_in_place.specs.NumberAt.{NumberAt}
@@ -71,8 +71,7 @@ overflow_add-at c = omega (arith, (c.number_at-number.ensures (not-false _ c.if-
 
 pub loop-i-preserved : goal.loop-i-preserved
 loop-i-preserved c = let number = c.number_at-number.ensures (not-false _ c.if-not-number.false) in
-    let blank = sym c.is_blank.ensures ∙ c.if-not-is_blank.false in
-    next c.loop-i.invariant number c.loop-i-test.true blank
+    next c.loop-i.invariant number c.loop-i-test.true (sym c.is_blank.ensures ∙ search rules)
 
 pub number_at-last-requires : goal.number_at-last-requires
 unfolding longest_plain
@@ -85,7 +84,7 @@ bounds-s-end c = let number = c.number_at-last.ensures (not-false _ c.if-not-las
 
 pub returns : goal.returns
 returns c found = let number = c.number_at-last.ensures (not-false _ c.if-not-last.false) in
-    done c.loop-i.invariant number _ c.past_return-end.ensures c.loop-i-test.false (lit≤ tt) c.if-s-end-ne10.false
+    done c.loop-i.invariant number _ c.past_return-end.ensures c.loop-i-test.false (lit≤ tt) (omega arith)
 
 pub returns-then-not-has_room : goal.returns-then-not-has_room
 returns-then-not-has_room c = other_outcome _ c.not_plain.ensures

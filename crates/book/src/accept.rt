@@ -9,7 +9,7 @@ use book_bytes::record::record_agrees;
 use book_bytes::trailer::describe_book;
 
 // 0 or the refusal's number, the count, the note's length, and the record that 23 names, from 1.
-#[derive(Drop)]
+#[derive(Clone, Copy)]
 pub struct Acceptance {
     pub number: u32,
     pub count: usize,

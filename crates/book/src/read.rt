@@ -10,7 +10,7 @@ use book_bytes::record::fields_at;
 use book_bytes::trailer::describe_book;
 
 // 0 or the refusal's number; and the inputs, the answer and the rating.
-#[derive(Drop)]
+#[derive(Clone, Copy)]
 pub struct Found {
     pub number: u32,
     pub fields: Record,

@@ -8,7 +8,7 @@ use book_bytes::layout::TRAILER_LENGTH;
 use book_bytes::trailer::put_trailer;
 
 // What start and append answer: 0 or the refusal's number, and the new used length.
-#[derive(Drop)]
+#[derive(Clone, Copy)]
 pub struct Written {
     pub number: u32,
     pub used: usize,

@@ -15,7 +15,7 @@ use super::layout::{
 use super::mark::{has_mark, put_mark};
 
 // What a trailer says: 0 or the refusal's number, how many records there are, and where the first one stands.
-#[derive(Drop)]
+#[derive(Clone, Copy)]
 pub struct Description {
     pub number: u32,
     pub count: usize,

@@ -18,7 +18,7 @@ pub const LINE: usize = ROOM;
 
 // Where reading stands: the chunk's bytes from `at` to `end` are still to come, and so many reads
 // are left.
-#[derive(Drop)]
+#[derive(Clone, Copy)]
 pub struct Input {
     pub at: usize,
     pub end: usize,
@@ -27,7 +27,7 @@ pub struct Input {
 
 // The line's length, if there was one: a line feed ends it, or the end of the input after at least
 // one byte.
-#[derive(Drop)]
+#[derive(Clone, Copy)]
 pub struct NextLine {
     pub found: bool,
     pub len: usize,
@@ -35,7 +35,7 @@ pub struct NextLine {
 }
 
 // What the line says, if there was one.
-#[derive(Drop)]
+#[derive(Clone, Copy)]
 pub struct NextSaid {
     pub found: bool,
     pub said: Read,
@@ -53,7 +53,7 @@ pub fn start() -> Input
 }
 
 // The chunk's bytes up to a line feed or the end, added to the line.
-#[derive(Drop)]
+#[derive(Clone, Copy)]
 struct Gathered {
     stop: usize,
     len: usize,

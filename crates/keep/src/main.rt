@@ -53,7 +53,7 @@ fn say<W: io::Write>(to: &mut W, number: u64, text: &[u8])
 }
 
 // Whether every line could be read and kept, and the book's used length.
-#[derive(Drop)]
+#[derive(Clone, Copy)]
 struct Kept {
     whole: bool,
     used: usize,

@@ -27,7 +27,7 @@ pub fn add_word(buffer: &mut [u8], len: usize, first: bool, word: &[u8]) -> usiz
 
 // What became of a line: whether it could be read, 0 or the number by which `append` refused its
 // case, and the used length.
-#[derive(Drop)]
+#[derive(Clone, Copy)]
 pub struct Kept {
     pub readable: bool,
     pub number: u32,

@@ -15,7 +15,7 @@ use text::line::{CASE, PASSED_OVER, Read, no_case, read_line};
 // What stands from a place on: whether the chunk has the whole line, where its line feed stands,
 // and what it says. Of a line that goes on past the chunk's end nothing is said, and `to` is that
 // end.
-#[derive(Drop)]
+#[derive(Clone, Copy)]
 pub struct Line {
     pub whole: bool,
     pub to: usize,

@@ -6,7 +6,7 @@ ghost use Rattle.line_in_place.specs.NumberAt.{NumberAt};
 use text::number::{LARGEST, LARGEST_NEGATED, is_number, leading_digits};
 
 // A number, if one was found, and where its word ends.
-#[derive(Drop)]
+#[derive(Clone, Copy)]
 pub(crate) struct Number {
     pub(crate) found: bool,
     pub(crate) to: usize,

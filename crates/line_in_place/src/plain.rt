@@ -9,7 +9,7 @@ use fields::{Case, WIDTH};
 use text::words::is_blank;
 
 // The numbers of a case, if they were found, and where the line feed after them stands.
-#[derive(Drop)]
+#[derive(Clone, Copy)]
 pub(crate) struct Plain {
     pub(crate) found: bool,
     pub(crate) to: usize,

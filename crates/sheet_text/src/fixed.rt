@@ -9,7 +9,7 @@ ghost use Rattle.sheet_text.specs.Laws.Steps.{FractionFits};
 use decimals::{put_byte, put_decimal};
 
 // A number below zero or not, by its size.
-#[derive(Drop)]
+#[derive(Clone, Copy)]
 pub struct Value {
     pub negative: bool,
     pub size: u64,

@@ -11,7 +11,7 @@ use wide::ratio::{mul_div_down, mul_div_up};
 use wide::trillion::{T, mul_div_down_trillion, mul_div_up_trillion};
 
 // a/b without its octaves: how often b can be doubled and stay at most a, and the ζ that is left, as num over den.
-#[derive(Drop)]
+#[derive(Clone, Copy)]
 pub struct Reduced {
     pub octaves: u64,
     pub num: u64,

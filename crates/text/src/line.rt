@@ -21,7 +21,7 @@ pub const CASE: u32 = 1;
 pub const UNREADABLE: u32 = 2;
 
 // What a line says: what it is, and the numbers of a case. The fields are 0 but in a case.
-#[derive(Drop)]
+#[derive(Clone, Copy)]
 pub struct Read {
     pub kind: u32,
     pub fields: Case,
@@ -37,7 +37,7 @@ pub fn no_case(kind: u32) -> Read
 }
 
 // Where a word ends, and what it says.
-#[derive(Drop)]
+#[derive(Clone, Copy)]
 struct Word {
     to: usize,
     said: Reading,

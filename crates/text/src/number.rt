@@ -5,7 +5,7 @@ ghost use Rattle.text.specs.Leading.{LeadingDigits, is_number};
 ghost use Rattle.text.specs.Number.{read_digits, read_number};
 
 // What a word says.
-#[derive(Drop)]
+#[derive(Clone, Copy)]
 pub enum Reading {
     Number(u32),
     Nothing,
@@ -61,7 +61,7 @@ pub fn read_number(w: &[u8]) -> Reading
 }
 
 // Where digits end, and their value.
-#[derive(Drop)]
+#[derive(Clone, Copy)]
 pub struct Leading {
     pub to: usize,
     pub value: u64,

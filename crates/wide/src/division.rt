@@ -4,7 +4,7 @@ ghost use Rattle.wide.specs.Shift.{IsShift};
 ghost use Rattle.wide.specs.Split.{Split, upward};
 ghost use Rattle.wide.specs.Laws.Ranges.{DigitRanges, IsRemaining};
 
-#[derive(Drop)]
+#[derive(Clone, Copy)]
 pub struct Divided {
     pub quotient: u64,
     pub rest: u64,

@@ -8,7 +8,7 @@ use super::division::divide;
 use super::limbs::{Wide, sum};
 
 // A quotient of two limbs, and what is left over.
-#[derive(Drop)]
+#[derive(Clone, Copy)]
 struct WideDivided {
     quotient: Wide,
     rest: u64,

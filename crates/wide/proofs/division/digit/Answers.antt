@@ -21,10 +21,10 @@ returns-then-short-v c = digit_is c.args.u c.args.next c.args.v c.requires 2
     (omega (arith, owed_room (goal.at.returns-then-short-v c).Start))
 
 pub overflow_sub-result-2 : goal.overflow_sub-result-2
-overflow_sub-result-2 c = one_off c.args.u c.args.next c.args.v c.requires c.sign.result (omega arith) (omega arith)
+overflow_sub-result-2 c = one_off c.args.u c.args.next c.args.v c.requires c.min.result (omega arith) (omega arith)
 
 pub returns : goal.returns
-returns c = near_guess c.args.u c.args.next c.args.v c.requires c.sign.result c.remaining.result
+returns c = near_guess c.args.u c.args.next c.args.v c.requires c.min.result c.remaining.result
     (omega arith)
     (omega arith)
     c.remaining.ensures

@@ -1,8 +1,7 @@
 -- `wide::root::root` meets its contract. The loop's invariant: r + 1 is above the root, and r is a u32. The measure is r:
 -- a step from above the root comes below r. Assumes nothing.
 use Rattle.std.proofs.Common.{arith}
-use Rattle.wide.proofs.TwoLimbs.{halves}
-use Rattle.wide.proofs.Newton.{step_above, step_below}
+use Rattle.wide.proofs.Newton.{halves, step_above, step_below}
 use Rattle.wide.proofs.root.root.Goals as goal
 
 pub loop-r-smaller : goal.loop-r-smaller

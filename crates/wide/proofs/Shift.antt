@@ -1,10 +1,10 @@
--- `wide::division::shift_of` meets its contract: c has a highest set bit j, and the count of its leading zeros makes 64 with
--- j + 1. Assumes nothing.
+-- The count of the leading zeros of a number is the shift that brings its top bit to bit 63. Assumes nothing.
 use Rattle.std.proofs.Common.{ap, arith, mul-le-mul_right, pow-add, shl_lt, subst, suc, sym, ℕ, ◌*◌, ◌+◌, ◌<◌, ◌^◌, ◌∙◌, ◌≡◌, ◌≤◌}
+use Rattle.std.specs.Int.{w64, leading_zeros}
 use Rattle.std.proofs.lemmas.Nat.{leading_top}
 use Rattle.wide.specs.Shift.{IsShift}
-use Rattle.wide.proofs.division.shift_of.Goals as goal
 
+-- j is the highest set bit of a, and there are z above it
 shifted : (a z j : ℕ) → z + suc j ≡ 64 → 2 ^ j ≤ a → a < 2 ^ suc j → IsShift a z
 shifted a z j e from below =
     let bits : j + z ≡ 63 = omega arith in
@@ -15,6 +15,6 @@ shifted a z j e from below =
       most = subst (λ (n : ℕ). a * 2 ^ z < 2 ^ n) length (shl_lt (suc j) z below);
     }
 
-pub returns : goal.returns
-returns c = let top = leading_top 64 c.args.c c.requires c.ranges.c.fits in
-    shifted c.args.c _ top.0 top.1 top.2 top.3
+pub leading_zeros_shift : (a : ℕ) → 0 < a → a < 2 ^ 64 → IsShift a (leading_zeros w64 a)
+leading_zeros_shift a a>0 a< =
+    let top = leading_top 64 a a>0 a< in shifted a (leading_zeros w64 a) top.0 top.1 top.2 top.3

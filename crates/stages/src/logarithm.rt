@@ -7,8 +7,9 @@ ghost use Rattle.stages.specs.Reduced.{IsReduced};
 ghost use Rattle.stages.specs.Laws.Ranges.{OctaveRanges, LogRanges};
 
 use super::constants::{LN2_HIGH, LN2_LOW};
-use wide::ratio::{mul_div_down, mul_div_up};
-use wide::trillion::{T, mul_div_down_trillion, mul_div_up_trillion};
+use wide::ratio::mul_div;
+use wide::rounding::{Down, Up};
+use wide::trillion::{T, mul_div_trillion};
 
 // a/b without its octaves: how often b can be doubled and stay at most a, and the ζ that is left, as num over den.
 #[derive(Clone, Copy)]
@@ -40,7 +41,7 @@ fn thirteen_terms_up(first: u64) -> u64
     requires { first ≤ most_power }
     ensures { result ≡ thirteen_terms up first }
 {
-    let q = mul_div_up_trillion(first, first);
+    let q = mul_div_trillion::<Up>(first, first);
     let mut p = first;
     let mut sum: u64 = 0;
     let mut j: u64 = 0;
@@ -49,7 +50,7 @@ fn thirteen_terms_up(first: u64) -> u64
             return sum + (13 - j);
         }
         sum += (2 * p + 2 * j) / (2 * j + 1);
-        p = mul_div_up_trillion(p, q);
+        p = mul_div_trillion::<Up>(p, q);
         j += 1;
     }
     sum
@@ -60,7 +61,7 @@ fn thirteen_terms_down(first: u64) -> u64
     requires { first ≤ most_power }
     ensures { result ≡ thirteen_terms down first }
 {
-    let q = mul_div_down_trillion(first, first);
+    let q = mul_div_trillion::<Down>(first, first);
     let mut p = first;
     let mut sum: u64 = 0;
     let mut j: u64 = 0;
@@ -69,7 +70,7 @@ fn thirteen_terms_down(first: u64) -> u64
             return sum;
         }
         sum += 2 * p / (2 * j + 1);
-        p = mul_div_down_trillion(p, q);
+        p = mul_div_trillion::<Down>(p, q);
         j += 1;
     }
     sum
@@ -80,7 +81,7 @@ pub fn log_high(a: u64, b: u64) -> u64
     ensures { result ≡ log_high a b }
 {
     let z = reduce(a, b);
-    thirteen_terms_up(mul_div_up(z.num, T, z.den)) + 1 + LN2_HIGH * z.octaves
+    thirteen_terms_up(mul_div::<Up>(z.num, T, z.den)) + 1 + LN2_HIGH * z.octaves
 }
 
 pub fn log_low(a: u64, b: u64) -> u64
@@ -88,5 +89,5 @@ pub fn log_low(a: u64, b: u64) -> u64
     ensures { result ≡ log_low a b }
 {
     let z = reduce(a, b);
-    thirteen_terms_down(mul_div_down(z.num, T, z.den)) + LN2_LOW * z.octaves
+    thirteen_terms_down(mul_div::<Down>(z.num, T, z.den)) + LN2_LOW * z.octaves
 }

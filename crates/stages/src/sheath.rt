@@ -13,15 +13,16 @@ ghost use Rattle.formulas.specs.Sheath.{
 };
 ghost use Rattle.stages.specs.Laws.Ranges.{SpacingRanges, BondRatioRanges, CirculatingRanges, EddyFactorRanges, EddyLossRanges};
 
-use wide::ratio::mul_div_up;
-use wide::trillion::{T, mul_div_up_trillion};
+use wide::ratio::mul_div;
+use wide::rounding::Up;
+use wide::trillion::{T, mul_div_trillion};
 
 fn bond_ratio_squared(x: u64, rs: u64) -> u64
     requires { BondRatioRanges x rs }
     ensures { result ≡ bond_ratio_squared (bond_ratio x rs) }
 {
-    let v = mul_div_up(x, T, rs);
-    mul_div_up_trillion(v, v)
+    let v = mul_div::<Up>(x, T, rs);
+    mul_div_trillion::<Up>(v, v)
 }
 
 pub fn circulating_loss(x: u64, rs: u64) -> u64
@@ -29,7 +30,7 @@ pub fn circulating_loss(x: u64, rs: u64) -> u64
     ensures { result ≡ circulating_loss x rs }
 {
     let v2 = bond_ratio_squared(x, rs);
-    mul_div_up(rs, v2, T + v2)
+    mul_div::<Up>(rs, v2, T + v2)
 }
 
 pub fn sl_loss(x: u64, rs: u64) -> u64
@@ -43,22 +44,22 @@ fn eddy_factor(b: u64, rs: u64) -> u64
     requires { EddyFactorRanges b rs }
     ensures { result ≡ eddy_factor (eddy_ratio_squared (eddy_ratio b rs)) }
 {
-    let m = mul_div_up(b, T, 2 * rs);
-    let m2 = mul_div_up_trillion(m, m);
-    mul_div_up(m2, T, T + m2)
+    let m = mul_div::<Up>(b, T, 2 * rs);
+    let m2 = mul_div_trillion::<Up>(m, m);
+    mul_div::<Up>(m2, T, T + m2)
 }
 
 fn eddy_spacing(d: u64, s: u64) -> u64
     requires { SpacingRanges d s }
     ensures { result ≡ eddy_spacing d s }
 {
-    mul_div_up(d * d, T, 4 * (s * s))
+    mul_div::<Up>(d * d, T, 4 * (s * s))
 }
 
 pub fn eddy_loss(j: u64, b: u64, rs: u64, d: u64, s: u64) -> u64
     requires { EddyLossRanges j b rs d s }
     ensures { result ≡ eddy_loss j b rs d s }
 {
-    let inner = mul_div_up_trillion(rs, eddy_factor(b, rs));
-    mul_div_up_trillion(3 * j * inner, eddy_spacing(d, s))
+    let inner = mul_div_trillion::<Up>(rs, eddy_factor(b, rs));
+    mul_div_trillion::<Up>(3 * j * inner, eddy_spacing(d, s))
 }

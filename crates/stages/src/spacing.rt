@@ -5,7 +5,8 @@ ghost use Rattle.stages.specs.Laws.Ranges.{LogRanges, ThirdRanges, SheathReactan
 
 use super::constants::{LN2_THIRD_HIGH, LN2_THIRD_LOW};
 use super::logarithm::{log_high, log_low};
-use wide::trillion::{mul_div_down_trillion, mul_div_up_trillion};
+use wide::rounding::{Down, Up};
+use wide::trillion::mul_div_trillion;
 
 // An end of the logarithm with that of a third of ln 2, which arrangement 2 alone adds.
 fn with_third(arrangement: u32, log: u64, third: u64) -> u64
@@ -36,12 +37,12 @@ pub fn sheath_reactance(b: u64, l: u64) -> u64
     requires { SheathReactanceRanges b l }
     ensures { result ≡ sheath_reactance b l }
 {
-    mul_div_up_trillion(b, l)
+    mul_div_trillion::<Up>(b, l)
 }
 
 pub fn sheath_reactance_low(b: u64, l: u64) -> u64
     requires { SheathReactanceRanges b l }
     ensures { result ≡ sheath_reactance_low b l }
 {
-    mul_div_down_trillion(b, l)
+    mul_div_trillion::<Down>(b, l)
 }

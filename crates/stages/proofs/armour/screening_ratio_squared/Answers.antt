@@ -9,15 +9,15 @@ use Rattle.formulas.specs.Laws.Bounds.{most_bond_ratio, most_bond_ratio_squared}
 use Rattle.stages.proofs.Quotients.{quotient_down_fits, square_fits}
 use Rattle.stages.proofs.armour.screening_ratio_squared.Goals as goal
 
-pub mul_div_down-v-requires : goal.mul_div_down-v-requires
+pub mul_div-v-requires : goal.mul_div-v-requires
 unfolding screening_ratio_squared tera
-mul_div_down-v-requires c = quotient_down_fits most_bond_ratio (omega arith) (omega arith) tt
+mul_div-v-requires c = quotient_down_fits most_bond_ratio (omega arith) (omega arith) tt
 
-pub mul_div_down_trillion-requires : goal.mul_div_down_trillion-requires
+pub mul_div_trillion-requires : goal.mul_div_trillion-requires
 unfolding screening_ratio_squared tera
-mul_div_down_trillion-requires c =
-    square_fits down_bounded most_bond_ratio most_bond_ratio_squared c.mul_div_down-v.ensures (omega arith) (omega arith) tt tt
+mul_div_trillion-requires c =
+    square_fits down_bounded most_bond_ratio most_bond_ratio_squared c.mul_div-v.ensures (omega arith) (omega arith) tt tt
 
 pub returns : goal.returns
 unfolding screening_ratio_squared tera
-returns c = c.mul_div_down_trillion.ensures ∙ ap (λ v. down (v * v) trillion) c.mul_div_down-v.ensures
+returns c = c.mul_div_trillion.ensures ∙ ap (λ v. down (v * v) trillion) c.mul_div-v.ensures

@@ -9,15 +9,15 @@ use Rattle.formulas.specs.Laws.Bounds.{most_common_ratio, most_common_ratio_squa
 use Rattle.stages.proofs.Quotients.{quotient_down_fits, square_fits}
 use Rattle.stages.proofs.common_sheath.common_ratio_squared.Goals as goal
 
-pub mul_div_down-y-requires : goal.mul_div_down-y-requires
+pub mul_div-y-requires : goal.mul_div-y-requires
 unfolding common_ratio_squared common_ratio tera
-mul_div_down-y-requires c = quotient_down_fits most_common_ratio (omega arith) (omega arith) tt
+mul_div-y-requires c = quotient_down_fits most_common_ratio (omega arith) (omega arith) tt
 
-pub mul_div_down_trillion-requires : goal.mul_div_down_trillion-requires
+pub mul_div_trillion-requires : goal.mul_div_trillion-requires
 unfolding common_ratio_squared common_ratio tera
-mul_div_down_trillion-requires c =
-    square_fits down_bounded most_common_ratio most_common_ratio_squared c.mul_div_down-y.ensures (omega arith) (omega arith) tt tt
+mul_div_trillion-requires c =
+    square_fits down_bounded most_common_ratio most_common_ratio_squared c.mul_div-y.ensures (omega arith) (omega arith) tt tt
 
 pub returns : goal.returns
 unfolding common_ratio_squared common_ratio tera
-returns c = c.mul_div_down_trillion.ensures ∙ ap (λ y. down (y * y) trillion) c.mul_div_down-y.ensures
+returns c = c.mul_div_trillion.ensures ∙ ap (λ y. down (y * y) trillion) c.mul_div-y.ensures

@@ -8,18 +8,18 @@ use Rattle.formulas.proofs.Laws.Ranges.{axis_ratio_squared_most, common_ratio_mo
 use Rattle.formulas.specs.Laws.Bounds.{most_common_ratio_squared, most_common_loss}
 use Rattle.stages.proofs.Quotients.{fits_up}
 use Rattle.stages.proofs.common_sheath.first_formula.Goals as goal
-use Rattle.stages.proofs.common_sheath.first_formula.Goals.{After-common_ratio_squared-y2, After-mul_div_up_trillion-ratio2, After-term-2}
+use Rattle.stages.proofs.common_sheath.first_formula.Goals.{After-common_ratio_squared-y2, After-mul_div_trillion-ratio2, After-term-2}
 
 y2_most : (c : After-common_ratio_squared-y2) → c.common_ratio_squared-y2.result ≤ most_common_ratio_squared
 y2_most c =
     let pre = c.requires.common in
     omega (arith, c.common_ratio_squared-y2.ensures, common_ratio_squared_most (common_ratio_most pre.rs_most pre.b_least))
 
-b2_is : (c : After-mul_div_up_trillion-ratio2) → c.mul_div_up_trillion-ratio2.result ≡ axis_ratio_squared c.args.ratio
+b2_is : (c : After-mul_div_trillion-ratio2) → c.mul_div_trillion-ratio2.result ≡ axis_ratio_squared c.args.ratio
 unfolding axis_ratio_squared tera
-b2_is c = c.mul_div_up_trillion-ratio2.ensures
+b2_is c = c.mul_div_trillion-ratio2.ensures
 
-b2_most : (c : After-mul_div_up_trillion-ratio2) → c.mul_div_up_trillion-ratio2.result ≤ trillion
+b2_most : (c : After-mul_div_trillion-ratio2) → c.mul_div_trillion-ratio2.result ≤ trillion
 b2_most c = omega (arith, b2_is c, axis_ratio_squared_most c.requires.ratio_most)
 
 terms_most : (c : After-term-2) → c.term.result + c.term-2.result ≤ 2 * trillion
@@ -45,11 +45,11 @@ returns c = let rs = c.args.rs in
     let y2 = c.common_ratio_squared-y2.ensures in
     let first = c.term.ensures ∙ (λ i. up (b * trillion) (trillion + y2 i)) in
     let second = c.term-2.ensures
-    ∙ (λ i. up (b2_is (goal.at.returns c).After-mul_div_up_trillion-ratio2 i * trillion) (trillion + 4 * y2 i)) in
-    c.mul_div_up_trillion.ensures ∙ (λ i. up (3 * rs * (first i + second i)) trillion)
+    ∙ (λ i. up (b2_is (goal.at.returns c).After-mul_div_trillion-ratio2 i * trillion) (trillion + 4 * y2 i)) in
+    c.mul_div_trillion.ensures ∙ (λ i. up (3 * rs * (first i + second i)) trillion)
 
-pub mul_div_up_trillion-ratio2-requires : goal.mul_div_up_trillion-ratio2-requires
-mul_div_up_trillion-ratio2-requires c = fits_up trillion (lit< tt) (mul-le-mul c.requires.ratio_most c.requires.ratio_most) tt
+pub mul_div_trillion-ratio2-requires : goal.mul_div_trillion-ratio2-requires
+mul_div_trillion-ratio2-requires c = fits_up trillion (lit< tt) (mul-le-mul c.requires.ratio_most c.requires.ratio_most) tt
 
 pub term-requires : goal.term-requires
 term-requires c =
@@ -61,12 +61,12 @@ overflow_mul-y2 c = omega (arith, y2_most (goal.at.overflow_mul-y2 c).After-comm
 pub term-requires-2 : goal.term-requires-2
 term-requires-2 c =
     record {
-      part_most = b2_most (goal.at.term-requires-2 c).After-mul_div_up_trillion-ratio2;
+      part_most = b2_most (goal.at.term-requires-2 c).After-mul_div_trillion-ratio2;
       k_most = omega (arith, y2_most (goal.at.term-requires-2 c).After-common_ratio_squared-y2);
     }
 
 pub overflow_add-term : goal.overflow_add-term
 overflow_add-term c = omega (arith, terms_most c)
 
-pub mul_div_up_trillion-requires : goal.mul_div_up_trillion-requires
-mul_div_up_trillion-requires c = fits_up most_common_loss (lit< tt) (product_most c) tt
+pub mul_div_trillion-requires : goal.mul_div_trillion-requires
+mul_div_trillion-requires c = fits_up most_common_loss (lit< tt) (product_most c) tt

@@ -13,9 +13,9 @@ outer_most c =
     let t≤ : c.args.t2 + c.args.t3 + c.args.t4 ≤ 40000000 = omega (arith, c.requires.thermal) in
     mul-le-mul n≤ t≤
 
-pub mul_div_up-requires : goal.mul_div_up-requires
+pub mul_div-requires : goal.mul_div-requires
 unfolding dielectric_resistance
-mul_div_up-requires c = let t = c.requires.thermal in
+mul_div-requires c = let t = c.requires.thermal in
     let t≤ = dielectric_resistance_most c.requires.n_most t.t1_most t.t2_most t.t3_most t.t4_most in
     quotient_up_fits most_dielectric_rise (lit< tt) (mul-le-mul c.requires.wd_most t≤) tt
 
@@ -29,4 +29,4 @@ overflow_add-t1 c = omega (arith, outer_most c)
 
 pub returns : goal.returns
 unfolding dielectric_rise dielectric_resistance
-returns c = c.mul_div_up.ensures
+returns c = c.mul_div.ensures

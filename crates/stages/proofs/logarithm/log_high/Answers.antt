@@ -13,7 +13,7 @@ known :
     (c : After-thirteen_terms_up) →
     Parts up c.args.a c.args.b c.thirteen_terms_up.result c.reduce-z.result.octaves
 known c =
-    parts up_bounded c.requires c.reduce-z.ensures c.mul_div_up.ensures c.thirteen_terms_up.ensures
+    parts up_bounded c.requires c.reduce-z.ensures c.mul_div.ensures c.thirteen_terms_up.ensures
 
 pub returns : goal.returns
 unfolding log_high ln2_high
@@ -21,8 +21,8 @@ returns c =
     ap₂ (λ terms count. terms + 1 + 693147180560 * count) (known (goal.at.returns c).After-thirteen_terms_up).terms_are
     (known (goal.at.returns c).After-thirteen_terms_up).count_is
 
-pub mul_div_up-requires : goal.mul_div_up-requires
-mul_div_up-requires c = first_fits up_bounded c.requires c.reduce-z.ensures
+pub mul_div-requires : goal.mul_div-requires
+mul_div-requires c = first_fits up_bounded c.requires c.reduce-z.ensures
 
 pub thirteen_terms_up-requires : goal.thirteen_terms_up-requires
 thirteen_terms_up-requires c = omega (arith, first_most up_bounded c.requires c.reduce-z.ensures)

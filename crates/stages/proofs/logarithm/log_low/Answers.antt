@@ -13,7 +13,7 @@ known :
     (c : After-thirteen_terms_down) →
     Parts down c.args.a c.args.b c.thirteen_terms_down.result c.reduce-z.result.octaves
 known c =
-    parts down_bounded c.requires c.reduce-z.ensures c.mul_div_down.ensures c.thirteen_terms_down.ensures
+    parts down_bounded c.requires c.reduce-z.ensures c.mul_div.ensures c.thirteen_terms_down.ensures
 
 pub returns : goal.returns
 unfolding log_low ln2_low
@@ -21,8 +21,8 @@ returns c =
     ap₂ (λ terms count. terms + 693147180559 * count) (known (goal.at.returns c).After-thirteen_terms_down).terms_are
     (known (goal.at.returns c).After-thirteen_terms_down).count_is
 
-pub mul_div_down-requires : goal.mul_div_down-requires
-mul_div_down-requires c = first_fits down_bounded c.requires c.reduce-z.ensures
+pub mul_div-requires : goal.mul_div-requires
+mul_div-requires c = first_fits down_bounded c.requires c.reduce-z.ensures
 
 pub thirteen_terms_down-requires : goal.thirteen_terms_down-requires
 thirteen_terms_down-requires c = omega (arith, first_most down_bounded c.requires c.reduce-z.ensures)

@@ -13,19 +13,19 @@ returns-then-p-j c = let test = both _ _ c.if-p-j.true in
 
 pub loop-j-preserved : goal.loop-j-preserved
 loop-j-preserved c = more up_bounded c.loop-j.invariant c.loop-j-test.true (term_up _ _)
-    c.mul_div_up_trillion-p.ensures
+    c.mul_div_trillion-p.ensures
 
-pub mul_div_up_trillion-q-requires : goal.mul_div_up_trillion-q-requires
-mul_div_up_trillion-q-requires c = fits (product_most up_bounded _ _ c.requires c.requires)
+pub mul_div_trillion-q-requires : goal.mul_div_trillion-q-requires
+mul_div_trillion-q-requires c = fits (product_most up_bounded _ _ c.requires c.requires)
 
 pub loop-j-init : goal.loop-j-init
-loop-j-init c = begin up_bounded c.requires c.mul_div_up_trillion-q.ensures
+loop-j-init c = begin up_bounded c.requires c.mul_div_trillion-q.ensures
 
 pub overflow_add-sum-in-loop-j-2 : goal.overflow_add-sum-in-loop-j-2
 overflow_add-sum-in-loop-j-2 c = omega (arith, more_total up_bounded c.loop-j.invariant c.loop-j-test.true (term_up _ _))
 
-pub mul_div_up_trillion-p-requires : goal.mul_div_up_trillion-p-requires
-mul_div_up_trillion-p-requires c = next_fits up_bounded c.loop-j.invariant
+pub mul_div_trillion-p-requires : goal.mul_div_trillion-p-requires
+mul_div_trillion-p-requires c = next_fits up_bounded c.loop-j.invariant
 
 pub returns : goal.returns
 returns c = done c.loop-j.invariant c.loop-j-test.false

@@ -15,14 +15,14 @@ v2_most c =
     let pre = c.requires.ratio in
     omega (arith, bond_ratio_squared_most (bond_ratio_most pre.x_most pre.rs_least), c.bond_ratio_squared-v2.ensures)
 
-pub mul_div_up-requires : goal.mul_div_up-requires
-mul_div_up-requires c = let rs = c.args.rs in
+pub mul_div-requires : goal.mul_div-requires
+mul_div-requires c = let rs = c.args.rs in
     let v2 = c.bond_ratio_squared-v2.result in
     quotient_up_fits most_resistance (omega arith) (omega (arith, mul-le-mul_right v2 c.requires.rs_most)) tt
 
 pub returns : goal.returns
 unfolding circulating_loss tera
-returns c = c.mul_div_up.ensures
+returns c = c.mul_div.ensures
     ∙ ap (λ v2. up (c.args.rs * v2) (trillion + v2)) c.bond_ratio_squared-v2.ensures
 
 pub overflow_add-v2 : goal.overflow_add-v2

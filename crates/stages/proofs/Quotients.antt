@@ -1,13 +1,16 @@
 -- What `wide`'s quotients require: the divisor is above 0, and the quotient fits, since it is at most a number that does. Stated once
 -- over the rounding. Assumes nothing.
-use Rattle.std.proofs.Common.{◌≡◌, ℕ, ◌*◌, ◌^◌, ◌≤◌, ◌<◌, le_trans, lt_of_le_of_lt, mul-le-mul, arith, T, leb, ltb, lit<, lit≤}
+use Rattle.std.proofs.Common.{◌≡◌, refl, min, suc-ne-zero, ℕ, zero, suc, ◌/◌, ◌%◌, ◌*◌, ◌^◌, ◌≤◌, ◌<◌, le_trans, lt_of_le_of_lt, mul-le-mul, arith, T, leb, ltb, lit<, lit≤}
+use Rattle.std.specs.Int.{div_ceil}
 use Rattle.exact.specs.Rounding.{up, down}
 use Rattle.exact.specs.Trillion.{trillion}
+use Rattle.wide.specs.Split.{upward}
 use Rattle.wide.specs.Laws.Ranges.{QuotientFits}
+use Rattle.wide.specs.Laws.Split.{divided, up_of_split, upward_none, upward_some}
 use Rattle.formulas.proofs.Laws.LogRange.{Bounded, up_bounded, down_bounded}
 
 module _ {round : ℕ → ℕ → ℕ} (bounded : Bounded round) where
-  fits : {a b : ℕ} (k : ℕ) → 0 < b → a ≤ k * b → T (ltb k (2 ^ 64)) → round a b < 2 ^ 64
+  pub fits : {a b : ℕ} (k : ℕ) → 0 < b → a ≤ k * b → T (ltb k (2 ^ 64)) → round a b < 2 ^ 64
   fits {a} {b} k b>0 h small = lt_of_le_of_lt (bounded a k b b>0 h) (lit< small)
 
   quotient : {a b : ℕ} (k : ℕ) → 0 < b → a ≤ k * b → T (ltb k (2 ^ 64)) → QuotientFits b (round a b)
@@ -34,3 +37,11 @@ quotient_up_fits = quotient up_bounded
 
 pub quotient_down_fits : {a b : ℕ} (k : ℕ) → 0 < b → a ≤ k * b → T (ltb k (2 ^ 64)) → QuotientFits b (down a b)
 quotient_down_fits = quotient down_bounded
+
+-- what the library calls a quotient rounded up
+pub ceiling : (a : ℕ) {b : ℕ} → 0 < b → div_ceil a b ≡ up a b
+ceiling a {b} b>0 = omega (arith, least_of (a % b), up_of_split a b (a / b) (a % b) (divided a b>0))
+  where
+    least_of : (r : ℕ) → min 1 r ≡ upward 0 r
+    least_of zero = omega (arith, upward_none 0 zero refl)
+    least_of (suc r) = omega (arith, upward_some 0 (suc r) (suc-ne-zero r))

@@ -4,8 +4,8 @@
 
 pub mod armour;
 pub mod common_sheath;
-mod constants;
 pub mod dielectric;
+pub mod ends;
 pub mod logarithm;
 pub mod proximity;
 pub mod rating;

@@ -37,7 +37,7 @@ pub fn sl_loss(x: u64, rs: u64) -> u64
     requires { CirculatingRanges x rs }
     ensures { result ≡ sl_loss x rs }
 {
-    (3 * circulating_loss(x, rs) + 1) / 2
+    (3 * circulating_loss(x, rs)).div_ceil(2)
 }
 
 fn eddy_factor(b: u64, rs: u64) -> u64

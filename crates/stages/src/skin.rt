@@ -4,7 +4,7 @@ ghost use Rattle.formulas.specs.Skin.{skin_reactance, skin_ratio, skin_ratio_squ
 ghost use Rattle.formulas.specs.Refusals.{skin_limit};
 ghost use Rattle.stages.specs.Laws.Ranges.{SkinReactanceRanges, SkinRatioRanges};
 
-use super::constants::PI_HIGH;
+use super::ends::End;
 use wide::ratio::mul_div;
 use wide::rounding::Up;
 use wide::trillion::{T, mul_div_trillion};
@@ -13,7 +13,7 @@ fn skin_reactance(f: u64, k: u64) -> u64
     requires { SkinReactanceRanges f k }
     ensures { result ≡ skin_reactance f k }
 {
-    (f * PI_HIGH * k + 124999) / 125000
+    (f * Up::PI * k).div_ceil(125000)
 }
 
 pub fn skin_ratio(f: u64, k: u64, rc: u64) -> u64

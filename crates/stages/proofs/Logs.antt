@@ -1,5 +1,5 @@
--- The two ends of stage 5's logarithm have the same parts: the octaves, and thirteen terms from the first power. What the code needs
--- of them is stated once, over the rounding. Assumes nothing.
+-- Both ends of stage 5's logarithm have the same parts: the octaves, and thirteen terms from the first power. What the code needs of
+-- them is stated over the rounding. Assumes nothing.
 use Rattle.std.proofs.Common.{◌≡◌, ap, ap₂, ◌∙◌, ℕ, ◌*◌, ◌≤◌, le_trans, le_of_eq, arith}
 use Rattle.exact.specs.Trillion.{trillion}
 use Rattle.formulas.specs.Constants.{tera}

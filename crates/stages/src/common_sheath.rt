@@ -3,8 +3,6 @@ ghost use Rattle.std.specs.Prelude.{◌≡◌, ◌+◌, ◌*◌};
 ghost use Rattle.exact.specs.Rounding.{up};
 ghost use Rattle.formulas.specs.CommonSheath.{
   axis_ratio,
-  common_ratio,
-  common_ratio_squared,
   first_formula,
   second_formula,
   common_loss,
@@ -12,13 +10,13 @@ ghost use Rattle.formulas.specs.CommonSheath.{
 ghost use Rattle.formulas.specs.Constants.{tera};
 ghost use Rattle.stages.specs.Laws.Ranges.{
   AxisRanges,
-  CommonRatioRanges,
   TermRanges,
   FirstFormulaRanges,
   SecondFormulaRanges,
   CommonLossRanges,
 };
 
+use super::square::ratio_squared;
 use wide::limbs::{product, scaled};
 use wide::quotient::quotient;
 use wide::ratio::mul_div;
@@ -36,14 +34,6 @@ pub fn axis_ratio(c: u64, d: u64) -> u64
     mul_div::<Up>(4 * (c * c), T, d * d)
 }
 
-fn common_ratio_squared(b: u64, rs: u64) -> u64
-    requires { CommonRatioRanges b rs }
-    ensures { result ≡ common_ratio_squared (common_ratio rs b) }
-{
-    let y = mul_div::<Down>(2 * rs, T, b);
-    mul_div_trillion::<Down>(y, y)
-}
-
 // A term of the first formula: `part` over 1 + k/T.
 fn term(part: u64, k: u64) -> u64
     requires { TermRanges part k }
@@ -57,7 +47,7 @@ fn first_formula(b: u64, rs: u64, ratio: u64) -> u64
     requires { FirstFormulaRanges b rs ratio }
     ensures { result ≡ first_formula b rs ratio }
 {
-    let y2 = common_ratio_squared(b, rs);
+    let y2 = ratio_squared::<Down>(2 * rs, T, b);
     let ratio2 = mul_div_trillion::<Up>(ratio, ratio);
     mul_div_trillion::<Up>(3 * rs, term(ratio, y2) + term(ratio2, 4 * y2))
 }

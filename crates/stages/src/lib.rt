@@ -14,4 +14,5 @@ pub mod resistance;
 pub mod sheath;
 pub mod skin;
 pub mod spacing;
-pub mod tables;
+mod square;
+pub mod thermal;

@@ -1,8 +1,6 @@
 // Stage 7: the loss in the sheath.
 ghost use Rattle.std.specs.Prelude.{◌≡◌};
 ghost use Rattle.formulas.specs.Sheath.{
-  bond_ratio,
-  bond_ratio_squared,
   circulating_loss,
   sl_loss,
   eddy_ratio,
@@ -11,25 +9,18 @@ ghost use Rattle.formulas.specs.Sheath.{
   eddy_spacing,
   eddy_loss,
 };
-ghost use Rattle.stages.specs.Laws.Ranges.{SpacingRanges, BondRatioRanges, CirculatingRanges, EddyFactorRanges, EddyLossRanges};
+ghost use Rattle.stages.specs.Laws.Ranges.{SpacingRanges, CirculatingRanges, EddyFactorRanges, EddyLossRanges};
 
+use super::square::ratio_squared;
 use wide::ratio::mul_div;
 use wide::rounding::Up;
 use wide::trillion::{T, mul_div_trillion};
-
-fn bond_ratio_squared(x: u64, rs: u64) -> u64
-    requires { BondRatioRanges x rs }
-    ensures { result ≡ bond_ratio_squared (bond_ratio x rs) }
-{
-    let v = mul_div::<Up>(x, T, rs);
-    mul_div_trillion::<Up>(v, v)
-}
 
 pub fn circulating_loss(x: u64, rs: u64) -> u64
     requires { CirculatingRanges x rs }
     ensures { result ≡ circulating_loss x rs }
 {
-    let v2 = bond_ratio_squared(x, rs);
+    let v2 = ratio_squared::<Up>(x, T, rs);
     mul_div::<Up>(rs, v2, T + v2)
 }
 
@@ -44,8 +35,7 @@ fn eddy_factor(b: u64, rs: u64) -> u64
     requires { EddyFactorRanges b rs }
     ensures { result ≡ eddy_factor (eddy_ratio_squared (eddy_ratio b rs)) }
 {
-    let m = mul_div::<Up>(b, T, 2 * rs);
-    let m2 = mul_div_trillion::<Up>(m, m);
+    let m2 = ratio_squared::<Up>(b, T, 2 * rs);
     mul_div::<Up>(m2, T, T + m2)
 }
 

@@ -1,6 +1,6 @@
 -- `wide::root::stepped` meets its contract: Newton's step comes to the root or above, and so does the largest u32.
 -- Assumes nothing.
-use Rattle.std.proofs.Common.{arith, div-mul-le_self, min, mul-le-mul_left, subst, ℕ, ◌*◌, ◌+◌, ◌/◌, ◌<◌, ◌^◌, ◌≡◌, ◌≤◌}
+use Rattle.std.proofs.Common.{arith, min, subst, ℕ, ◌*◌, ◌+◌, ◌<◌, ◌^◌, ◌≡◌, ◌≤◌}
 use Rattle.std.proofs.Math.Decide.{dec_le}
 use Rattle.wide.proofs.Newton.{step_above}
 use Rattle.wide.proofs.root.stepped.Goals as goal
@@ -14,10 +14,6 @@ capped x r small above = either (dec_le r 4294967295)
     either : Dec (r ≤ 4294967295) → x < (min r 4294967295 + 1) * (min r 4294967295 + 1)
     either (yes h) = at {k = r} (omega arith) above
     either (no f) = at {k = 4294967295} (omega (arith, f)) (omega arith)
-
-pub overflow_add-r : goal.overflow_add-r
-overflow_add-r c = let q = c.args.x / c.args.g in
-    omega (arith, div-mul-le_self c.args.x c.args.g, mul-le-mul_left {m = 2} {n = c.args.g} q (omega arith))
 
 pub returns : goal.returns
 returns c = record {

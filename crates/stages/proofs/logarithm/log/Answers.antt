@@ -1,7 +1,7 @@
 -- `stages::logarithm::log` meets its contract: its parts are those of Logs.antt, and their sum is small. Assumes nothing.
 use Rattle.std.proofs.Common.{ap₂, arith, sym, ◌*◌, ◌+◌, ◌∙◌, ◌≡◌, ℕ}
 use Rattle.stages.specs.Laws.Ends.{LogLaws}
-use Rattle.stages.proofs.Logs.{Parts, first_most, first_fits, parts}
+use Rattle.stages.proofs.Logs.{Parts, first_most, parts}
 use Rattle.stages.proofs.logarithm.log.Goals as goal
 use Rattle.stages.proofs.logarithm.log.Goals.{After-LEFT_OUT}
 
@@ -13,9 +13,6 @@ module _
   sum_is extra-is factor-is times-is =
       ap₂ (λ head tail. head + tail) (ap₂ ◌+◌ known.terms_are extra-is) (ap₂ ◌*◌ factor-is (times-is ∙ known.count_is))
       ∙ sym (laws.log_is a b)
-
-pub mul_div-requires : goal.mul_div-requires
-mul_div-requires g c = first_fits g.met.R.End.bounded c.requires c.reduce-z.ensures
 
 pub thirteen_terms-terms-requires : goal.thirteen_terms-terms-requires
 thirteen_terms-terms-requires g c = omega (arith, c.mul_div.ensures, first_most g.met.R.End.bounded c.requires c.reduce-z.ensures)

@@ -20,6 +20,7 @@ use stages::reactance::reactance;
 use stages::resistance::{resistance, signed};
 use stages::skin::skin_ratio;
 use tables::{coefficient, conductor_metal};
+use wide::rounding::Up;
 
 // A word as a number for the stages, with its range.
 pub(crate) fn number(n: u32) -> u64
@@ -58,7 +59,7 @@ pub(crate) fn reactance_of(x: Case) -> u64
     requires { Sound x }
     ensures { result ≡ B x }
 {
-    reactance(number(x[FREQUENCY]))
+    reactance::<Up>(number(x[FREQUENCY]))
 }
 
 // z with k, which is ks or kp.

@@ -10,7 +10,9 @@ use fields::{
     Case, INSULATION_DIAMETER, LOSS_FACTOR, PERMITTIVITY, SCREEN_DIAMETER, T1, T2, T3, T4, VOLTAGE,
 };
 use stages::dielectric::{dielectric_loss, dielectric_rise};
-use stages::logarithm::log_low;
+use stages::logarithm::log;
+use stages::thermal::Thermal;
+use wide::rounding::Down;
 
 pub(crate) fn dielectric_loss_of(x: Case, b: u64) -> u64
     requires { DielectricLossTakes x b }
@@ -21,7 +23,7 @@ pub(crate) fn dielectric_loss_of(x: Case, b: u64) -> u64
         number(x[VOLTAGE]),
         number(x[LOSS_FACTOR]),
         b,
-        log_low(number(x[INSULATION_DIAMETER]), number(x[SCREEN_DIAMETER])),
+        log::<Down>(number(x[INSULATION_DIAMETER]), number(x[SCREEN_DIAMETER])),
     )
 }
 
@@ -32,9 +34,11 @@ pub(crate) fn dielectric_rise_of(x: Case, n: u64, wd: u64) -> u64
     dielectric_rise(
         n,
         wd,
-        number(x[T1]),
-        number(x[T2]),
-        number(x[T3]),
-        number(x[T4]),
+        Thermal {
+            t1: number(x[T1]),
+            t2: number(x[T2]),
+            t3: number(x[T3]),
+            t4: number(x[T4]),
+        },
     )
 }

@@ -11,6 +11,7 @@ use super::judge::Shared;
 use super::rate::{Answer, refuse};
 use fields::{Case, T1, T2, T3, T4};
 use stages::rating::{rating, unit_rise};
+use stages::thermal::Thermal;
 
 // The largest rating that refusal 11 lets pass, in mA.
 const MOST_CURRENT: u64 = 5_000_000;
@@ -24,10 +25,12 @@ fn unit_rise_of(x: Case, p: Shared, l: Losses) -> u64
         p.r,
         l.s,
         l.w,
-        number(x[T1]),
-        number(x[T2]),
-        number(x[T3]),
-        number(x[T4]),
+        Thermal {
+            t1: number(x[T1]),
+            t2: number(x[T2]),
+            t3: number(x[T3]),
+            t4: number(x[T4]),
+        },
     )
 }
 

@@ -5,16 +5,17 @@ ghost use Rattle.rating.specs.Values.{X, XLow};
 
 use super::case::number;
 use fields::{ARRANGEMENT, Case, FREQUENCY, SHEATH_DIAMETER, SPACING};
-use stages::reactance::reactance_low;
-use stages::spacing::{sheath_reactance, sheath_reactance_low, spacing_log_high, spacing_log_low};
+use stages::reactance::reactance;
+use stages::spacing::{sheath_reactance, spacing_log};
+use wide::rounding::{Down, Up};
 
 pub(crate) fn sheath_reactance_of(x: Case, b: u64) -> u64
     requires { SheathReactanceTakes x b }
     ensures { result ≡ X x }
 {
-    sheath_reactance(
+    sheath_reactance::<Up>(
         b,
-        spacing_log_high(
+        spacing_log::<Up>(
             x[ARRANGEMENT],
             number(x[SPACING]),
             number(x[SHEATH_DIAMETER]),
@@ -26,9 +27,9 @@ pub(crate) fn sheath_reactance_low_of(x: Case) -> u64
     requires { SheathsApart x }
     ensures { result ≡ XLow x }
 {
-    sheath_reactance_low(
-        reactance_low(number(x[FREQUENCY])),
-        spacing_log_low(
+    sheath_reactance::<Down>(
+        reactance::<Down>(number(x[FREQUENCY])),
+        spacing_log::<Down>(
             x[ARRANGEMENT],
             number(x[SPACING]),
             number(x[SHEATH_DIAMETER]),

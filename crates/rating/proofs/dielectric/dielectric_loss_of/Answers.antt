@@ -6,19 +6,19 @@ use Rattle.fields.specs.Fields as Field
 use Rattle.rating.specs.Values.{Wd}
 use Rattle.rating.proofs.Laws.Ranges.{B_range, insulation_log_range}
 use Rattle.rating.proofs.dielectric.dielectric_loss_of.Goals as goal
-use Rattle.rating.proofs.dielectric.dielectric_loss_of.Goals.{After-log_low}
+use Rattle.rating.proofs.dielectric.dielectric_loss_of.Goals.{After-log}
 
 log_is :
-    (c : After-log_low) →
+    (c : After-log) →
     let x = c.args.x in
-    c.log_low.result ≡ log_low (Field.insulation_diameter x) (Field.screen_diameter x)
+    c.log.result ≡ log_low (Field.insulation_diameter x) (Field.screen_diameter x)
 log_is c =
     let di = c.number-4.ensures.same in
     let ds = c.number-5.ensures.same in
-    c.log_low.ensures ∙ (λ i. log_low (di i) (ds i))
+    c.log.ensures ∙ (λ i. log_low (di i) (ds i))
 
-pub log_low-requires : goal.log_low-requires
-log_low-requires c =
+pub log-requires : goal.log-requires
+log-requires c =
     let fine = c.requires.sound in
     omega
     (arith, c.number-5.ensures.same, c.number-4.ensures.same, fine.insulation_diameter, fine.screen_diameter, fine.insulated)
@@ -43,5 +43,5 @@ returns c =
     let u0 = c.number-2.ensures.same in
     let t = c.number-3.ensures.same in
     let b = c.requires.b_is in
-    let log = log_is (goal.at.returns c).After-log_low in
+    let log = log_is (goal.at.returns c).After-log in
     c.dielectric_loss.ensures ∙ (λ i. dielectric_loss (e i) (u0 i) (t i) (b i) (log i))

@@ -1,17 +1,10 @@
 // The arrangements, and what each hands to the steps that all share: its part of refusals 3 to 9, and its losses.
 ghost use Rattle.std.specs.Prelude.{◌≡◌};
 ghost use Rattle.rating.specs.Arrangement;
-ghost use Rattle.rating.specs.Arrangements.{own};
 ghost use Rattle.rating.specs.Kind.{Picks, j_of};
-ghost use Rattle.rating.specs.Laws.Steps.{Has, HasPassed, Asks, Loses};
 
-use super::both_ends::{both_ends_losses, both_ends_rules};
-use super::common_sheath::{common_sheath_losses, common_sheath_rules};
 use super::field_refusals::within;
-use super::judge::Shared;
-use super::one_point::{one_point_losses, one_point_rules};
 use super::refusal::Refusal;
-use super::sl_type::{sl_type_losses, sl_type_rules};
 use fields::{
     ARMOUR_DIAMETER, ARMOUR_METAL, ARMOUR_RESISTANCE, ARMOUR_TEMPERATURE, AXIS_DISTANCE, Case,
 };
@@ -104,28 +97,4 @@ pub(crate) fn armourless(x: Case) -> bool
     ensures { result ≡ Arrangement.armourless x }
 {
     no_armour(x) & (x[AXIS_DISTANCE] == 0)
-}
-
-pub(crate) fn rules_of(x: Case, kind: Kind) -> Rules
-    requires { Has x kind }
-    ensures { Asks (own x) x result }
-{
-    match kind {
-        Kind::BothEnds => both_ends_rules(x),
-        Kind::OnePoint(_) => one_point_rules(x),
-        Kind::SlType => sl_type_rules(x),
-        Kind::CommonSheath => common_sheath_rules(x),
-    }
-}
-
-pub(crate) fn losses_of(x: Case, kind: Kind, p: Shared) -> Losses
-    requires { HasPassed x kind p }
-    ensures { Loses (own x) x result }
-{
-    match kind {
-        Kind::BothEnds => both_ends_losses(x, p),
-        Kind::OnePoint(formation) => one_point_losses(x, formation, p),
-        Kind::SlType => sl_type_losses(x, p),
-        Kind::CommonSheath => common_sheath_losses(x, p),
-    }
 }

@@ -1,10 +1,11 @@
 // Arrangements 1 and 2: sheaths bonded at both ends, through which currents circulate.
+ghost use Rattle.std.specs.Prelude.{◌≡◌};
+ghost use Rattle.rating.specs.Arrangements.{own};
 ghost use Rattle.rating.specs.BothEnds.{both_ends};
-ghost use Rattle.rating.specs.Laws.Steps.{Asks, Passes, Loses};
+ghost use Rattle.rating.specs.Laws.Steps.{Asks, Loses};
 
 use super::arrangement::{Losses, Rules, armourless};
-use super::judge::Shared;
-use super::sheath_reactance::sheath_reactance_of;
+use super::judge::FitCase;
 use fields::{Case, SHEATH_DIAMETER, SPACING};
 use stages::sheath::circulating_loss;
 
@@ -21,11 +22,11 @@ pub(crate) fn both_ends_rules(x: Case) -> Rules
     }
 }
 
-pub(crate) fn both_ends_losses(x: Case, p: Shared) -> Losses
-    requires { Passes both_ends x p }
-    ensures { Loses both_ends x result }
+pub(crate) fn both_ends_losses(p: &FitCase) -> Losses
+    requires { own p.now.case.x ≡ both_ends }
+    ensures { Loses both_ends p.now.case.x result }
 {
-    let reactance = sheath_reactance_of(x, p.b);
+    let reactance = p.sheath_reactance();
     Losses {
         n: 1,
         ra: 0,

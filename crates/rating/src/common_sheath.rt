@@ -1,10 +1,11 @@
 // Arrangement 6: three cores in one sheath, which has eddies alone.
+ghost use Rattle.std.specs.Prelude.{◌≡◌};
+ghost use Rattle.rating.specs.Arrangements.{own};
 ghost use Rattle.rating.specs.CommonSheath.{common_sheath};
-ghost use Rattle.rating.specs.Laws.Steps.{Asks, Passes, Loses};
+ghost use Rattle.rating.specs.Laws.Steps.{Asks, Loses};
 
 use super::arrangement::{Losses, Rules, axis_limits, no_armour};
-use super::case::number;
-use super::judge::Shared;
+use super::judge::FitCase;
 use fields::{AXIS_DISTANCE, CONDUCTOR_DIAMETER, Case, SHEATH_DIAMETER, SPACING};
 use stages::common_sheath::common_loss;
 
@@ -16,17 +17,18 @@ pub(crate) fn common_sheath_rules(x: Case) -> Rules
         limits: axis_limits(x),
         unused: no_armour(x),
         geometry: (x[CONDUCTOR_DIAMETER] <= x[SPACING])
-            & (2 * number(x[AXIS_DISTANCE]) <= number(x[SHEATH_DIAMETER])),
+            & (2 * u64::from(x[AXIS_DISTANCE]) <= u64::from(x[SHEATH_DIAMETER])),
         heat: true,
         metal: true,
         eddies: false,
     }
 }
 
-pub(crate) fn common_sheath_losses(x: Case, p: Shared) -> Losses
-    requires { Passes common_sheath x p }
-    ensures { Loses common_sheath x result }
+pub(crate) fn common_sheath_losses(p: &FitCase) -> Losses
+    requires { own p.now.case.x ≡ common_sheath }
+    ensures { Loses common_sheath p.now.case.x result }
 {
+    let x = &p.case.x;
     Losses {
         n: 3,
         ra: 0,
@@ -34,8 +36,8 @@ pub(crate) fn common_sheath_losses(x: Case, p: Shared) -> Losses
         s: common_loss(
             p.b,
             p.rs,
-            number(x[AXIS_DISTANCE]),
-            number(x[SHEATH_DIAMETER]),
+            u64::from(x[AXIS_DISTANCE]),
+            u64::from(x[SHEATH_DIAMETER]),
         ),
         w: 0,
     }

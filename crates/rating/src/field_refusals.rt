@@ -9,7 +9,6 @@ ghost use Rattle.rating.specs.Laws.Steps.{Asks, ChecksFields};
 ghost use Rattle.rating.specs.Within as Within;
 
 use super::arrangement::Rules;
-use super::case::number;
 use super::refusal::Refusal;
 use fields::{
     AMBIENT_TEMPERATURE, CONDUCTOR, CONDUCTOR_DIAMETER, CONDUCTOR_RESISTANCE,
@@ -101,7 +100,7 @@ fn geometry_refused(x: Case, its: bool) -> bool
     ensures { result ≡ FieldRefusals.geometry_refused x }
 {
     !((x[CONDUCTOR_DIAMETER] <= x[SCREEN_DIAMETER])
-        & (105 * number(x[SCREEN_DIAMETER]) <= 100 * number(x[INSULATION_DIAMETER]))
+        & (105 * u64::from(x[SCREEN_DIAMETER]) <= 100 * u64::from(x[INSULATION_DIAMETER]))
         & (x[INSULATION_DIAMETER] <= x[SHEATH_DIAMETER])
         & its)
 }

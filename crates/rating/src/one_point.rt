@@ -1,12 +1,12 @@
 // Arrangements 3 and 4: sheaths of lead bonded at one point, which have eddies alone.
-ghost use Rattle.std.specs.Prelude.{ℕ};
+ghost use Rattle.std.specs.Prelude.{◌≡◌, ℕ};
 ghost use Rattle.rating.specs.OnePoint.{one_point};
+ghost use Rattle.rating.specs.Arrangements.{own};
 ghost use Rattle.rating.specs.Kind.{j_of};
-ghost use Rattle.rating.specs.Laws.Steps.{Asks, Passes, Loses};
+ghost use Rattle.rating.specs.Laws.Steps.{Asks, Loses};
 
 use super::arrangement::{Formation, Losses, Rules, armourless};
-use super::case::number;
-use super::judge::Shared;
+use super::judge::FitCase;
 use fields::{Case, SHEATH_DIAMETER, SHEATH_METAL, SPACING};
 use stages::sheath::eddy_loss;
 
@@ -23,10 +23,11 @@ pub(crate) fn one_point_rules(x: Case) -> Rules
     }
 }
 
-pub(crate) fn one_point_losses(x: Case, formation: Formation, p: Shared) -> Losses
-    requires { Passes (one_point (j_of formation)) x p }
-    ensures { Loses (one_point (j_of formation)) x result }
+pub(crate) fn one_point_losses(p: &FitCase, formation: Formation) -> Losses
+    requires { own p.now.case.x ≡ one_point (j_of formation) }
+    ensures { Loses (one_point (j_of formation)) p.now.case.x result }
 {
+    let x = &p.case.x;
     Losses {
         n: 1,
         ra: 0,
@@ -35,8 +36,8 @@ pub(crate) fn one_point_losses(x: Case, formation: Formation, p: Shared) -> Loss
             formation.j(),
             p.b,
             p.rs,
-            number(x[SHEATH_DIAMETER]),
-            number(x[SPACING]),
+            u64::from(x[SHEATH_DIAMETER]),
+            u64::from(x[SPACING]),
         ),
         w: 0,
     }

@@ -1,37 +1,41 @@
 // Stage 6 on a case whose sheaths do not overlap: X, and X- from below.
-ghost use Rattle.std.specs.Prelude.{◌≡◌};
-ghost use Rattle.rating.specs.Laws.Takes.{SheathsApart, SheathReactanceTakes};
+ghost use Rattle.std.specs.Prelude.{◌≡◌, ◌≤◌};
+ghost use Rattle.fields.specs.Fields.{sheath_diameter, spacing};
 ghost use Rattle.rating.specs.Values.{X, XLow};
 
-use super::case::number;
-use fields::{ARRANGEMENT, Case, FREQUENCY, SHEATH_DIAMETER, SPACING};
+use super::judge::FitCase;
+use fields::{ARRANGEMENT, FREQUENCY, SHEATH_DIAMETER, SPACING};
 use stages::reactance::reactance_low;
 use stages::spacing::{sheath_reactance, sheath_reactance_low, spacing_log_high, spacing_log_low};
 
-pub(crate) fn sheath_reactance_of(x: Case, b: u64) -> u64
-    requires { SheathReactanceTakes x b }
-    ensures { result ≡ X x }
-{
-    sheath_reactance(
-        b,
-        spacing_log_high(
-            x[ARRANGEMENT],
-            number(x[SPACING]),
-            number(x[SHEATH_DIAMETER]),
-        ),
-    )
-}
+impl FitCase {
+    pub(crate) fn sheath_reactance(&self) -> u64
+        requires { sheath_diameter self.now.case.x ≤ spacing self.now.case.x }
+        ensures { result ≡ X self.now.case.x }
+    {
+        let x = &self.case.x;
+        sheath_reactance(
+            self.b,
+            spacing_log_high(
+                x[ARRANGEMENT],
+                u64::from(x[SPACING]),
+                u64::from(x[SHEATH_DIAMETER]),
+            ),
+        )
+    }
 
-pub(crate) fn sheath_reactance_low_of(x: Case) -> u64
-    requires { SheathsApart x }
-    ensures { result ≡ XLow x }
-{
-    sheath_reactance_low(
-        reactance_low(number(x[FREQUENCY])),
-        spacing_log_low(
-            x[ARRANGEMENT],
-            number(x[SPACING]),
-            number(x[SHEATH_DIAMETER]),
-        ),
-    )
+    pub(crate) fn sheath_reactance_low(&self) -> u64
+        requires { sheath_diameter self.now.case.x ≤ spacing self.now.case.x }
+        ensures { result ≡ XLow self.now.case.x }
+    {
+        let x = &self.case.x;
+        sheath_reactance_low(
+            reactance_low(u64::from(x[FREQUENCY])),
+            spacing_log_low(
+                x[ARRANGEMENT],
+                u64::from(x[SPACING]),
+                u64::from(x[SHEATH_DIAMETER]),
+            ),
+        )
+    }
 }

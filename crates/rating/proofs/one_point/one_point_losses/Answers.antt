@@ -7,6 +7,7 @@ use Rattle.rating.specs.Arrangement.{alternating}
 use Rattle.rating.specs.Kind.{j_of}
 use Rattle.rating.specs.OnePoint.{one_point}
 use Rattle.rating.specs.Laws.Fit.{Fit}
+use Rattle.rating.proofs.Own.{fits}
 use Rattle.rating.proofs.Laws.Ranges.{Rs_range}
 use Rattle.rating.proofs.Laws.OnePoint.{one_point_apart, eddies_small}
 use Rattle.rating.proofs.one_point.one_point_losses.Goals as goal
@@ -17,8 +18,8 @@ j_most Flat = lit≤ tt
 
 pub eddy_loss-requires : goal.eddy_loss-requires
 eddy_loss-requires c =
-    let p = c.requires in
-    let fit : Fit (one_point (j_of c.args.formation)) c.args.x = p.fit in
+    let p = c.args.p.now in
+    let fit : Fit (one_point (j_of c.args.formation)) p.case.x = fits c.requires p.fit in
     let rs = Rs_range fit.sound in
     let apart = one_point_apart (j_of c.args.formation) fit in
     record {
@@ -31,9 +32,9 @@ eddy_loss-requires c =
           };
       spacing =
           record {
-            s>0 = omega (arith, c.number-2.ensures.same, fit.sound.spacing);
-            s_most = omega (arith, c.number-2.ensures.same, fit.sound.spacing);
-            apart = omega (arith, c.number-2.ensures.same, c.number.ensures.same, apart);
+            s>0 = omega (arith, c.from-2.ensures, fit.sound.spacing);
+            s_most = omega (arith, c.from-2.ensures, fit.sound.spacing);
+            apart = omega (arith, c.from-2.ensures, c.from.ensures, apart);
           };
     }
 
@@ -41,9 +42,10 @@ pub returns : goal.returns
 unfolding one_point
 returns c =
     let j = c.j.ensures in
-    let b = c.requires.b_is in
-    let rs = c.requires.rs_is in
-    let d = c.number.ensures.same in
-    let s = c.number-2.ensures.same in
+    let p = c.args.p.now in
+    let b = p.b_is in
+    let rs = p.rs_is in
+    let d = c.from.ensures in
+    let s = c.from-2.ensures in
     let loss = sym (c.eddy_loss.ensures ∙ (λ i. eddy_loss (j i) (b i) (rs i) (d i) (s i))) in
-    record { numbers_are = ap (λ s. alternating 1 s 0 c.args.x) loss; ra_is = refl; x_is = refl }
+    record { numbers_are = ap (λ s. alternating 1 s 0 p.case.x) loss; ra_is = refl; x_is = refl }

@@ -1,4 +1,4 @@
-// A case that refusals 1 to 7 let pass, and what the stages take of it: its resistances, its rise, B and its z.
+// A case that refusals 1 to 7 let pass, and what the stages take of it: its resistances, its rise, B, its z and T1 to T4.
 ghost use Rattle.std.specs.Prelude.{◌≡◌, ◌≤◌, ◌-ℤ◌, nat_abs};
 ghost use Rattle.std.specs.Int.{w32};
 ghost use Rattle.std.proofs.Common.{to_z};
@@ -12,18 +12,20 @@ ghost use Rattle.rating.specs.FieldRefusals.{field_refusal};
 ghost use Rattle.rating.specs.Kind.{arrangement_as};
 ghost use Rattle.rating.specs.Laws.Rise.{RiseRange};
 ghost use Rattle.rating.specs.Laws.Sound.{Sound};
-ghost use Rattle.rating.specs.Laws.Steps.{MetalLimits};
+ghost use Rattle.rating.specs.Laws.Steps.{IsThermal, MetalLimits};
 ghost use Rattle.rating.specs.Values.{R', Rs, B, rise_of};
 
 use super::arrangement::Kind;
 use fields::{
     AMBIENT_TEMPERATURE, CONDUCTOR, CONDUCTOR_RESISTANCE, CONDUCTOR_TEMPERATURE, Case, FREQUENCY,
-    SHEATH_METAL, SHEATH_RESISTANCE, SHEATH_TEMPERATURE,
+    SHEATH_METAL, SHEATH_RESISTANCE, SHEATH_TEMPERATURE, T1, T2, T3, T4,
 };
 use stages::reactance::reactance;
 use stages::resistance::{resistance, signed};
 use stages::skin::skin_ratio;
+use stages::thermal::Thermal;
 use tables::{coefficient, conductor_metal};
+use wide::rounding::Up;
 
 // `eddies`: whether refusal 9 is tried.
 #[derive(Clone, Copy)]
@@ -77,7 +79,7 @@ impl SoundCase {
     pub(crate) fn reactance(&self) -> u64
         ensures { result ≡ B self.now.x }
     {
-        reactance(u64::from(self.x[FREQUENCY]))
+        reactance::<Up>(u64::from(self.x[FREQUENCY]))
     }
 
     // z with k, which is ks or kp.
@@ -93,5 +95,16 @@ impl SoundCase {
         ensures { result ≡ rise_of self.now.x }
     {
         difference(self.x[CONDUCTOR_TEMPERATURE], self.x[AMBIENT_TEMPERATURE])
+    }
+
+    pub(crate) fn thermal(&self) -> Thermal
+        ensures { IsThermal self.now.x result }
+    {
+        Thermal {
+            t1: u64::from(self.x[T1]),
+            t2: u64::from(self.x[T2]),
+            t3: u64::from(self.x[T3]),
+            t4: u64::from(self.x[T4]),
+        }
     }
 }

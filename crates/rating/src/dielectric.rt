@@ -7,11 +7,10 @@ ghost use Rattle.rating.specs.Values.{B, Wd};
 
 use super::case::SoundCase;
 use super::judge::FitCase;
-use fields::{
-    INSULATION_DIAMETER, LOSS_FACTOR, PERMITTIVITY, SCREEN_DIAMETER, T1, T2, T3, T4, VOLTAGE,
-};
+use fields::{INSULATION_DIAMETER, LOSS_FACTOR, PERMITTIVITY, SCREEN_DIAMETER, VOLTAGE};
 use stages::dielectric::{dielectric_loss, dielectric_rise};
-use stages::logarithm::log_low;
+use stages::logarithm::log;
+use wide::rounding::Down;
 
 impl SoundCase {
     pub(crate) fn dielectric_loss(&self, b: u64) -> u64
@@ -23,7 +22,7 @@ impl SoundCase {
             u64::from(self.x[VOLTAGE]),
             u64::from(self.x[LOSS_FACTOR]),
             b,
-            log_low(
+            log::<Down>(
                 u64::from(self.x[INSULATION_DIAMETER]),
                 u64::from(self.x[SCREEN_DIAMETER]),
             ),
@@ -37,14 +36,6 @@ impl FitCase {
         ensures { let x = self.now.case.x in
             result ≡ dielectric_rise n (Wd x) (Field.t1 x) (Field.t2 x) (Field.t3 x) (Field.t4 x) }
     {
-        let x = &self.case.x;
-        dielectric_rise(
-            n,
-            self.wd,
-            u64::from(x[T1]),
-            u64::from(x[T2]),
-            u64::from(x[T3]),
-            u64::from(x[T4]),
-        )
+        dielectric_rise(n, self.wd, self.case.thermal())
     }
 }

@@ -13,7 +13,6 @@ use super::one_point::one_point_losses;
 use super::rate::Rated;
 use super::refusal::Refusal;
 use super::sl_type::sl_type_losses;
-use fields::{T1, T2, T3, T4};
 use stages::rating::{rating, unit_rise};
 
 // The largest rating that refusal 11 lets pass, in mA.
@@ -35,17 +34,7 @@ impl FitCase {
         requires { Loses (own self.now.case.x) self.now.case.x l }
         ensures { result ≡ E self.now.case.x }
     {
-        let x = &self.case.x;
-        unit_rise(
-            l.n,
-            self.r,
-            l.s,
-            l.w,
-            u64::from(x[T1]),
-            u64::from(x[T2]),
-            u64::from(x[T3]),
-            u64::from(x[T4]),
-        )
+        unit_rise(l.n, self.r, l.s, l.w, self.case.thermal())
     }
 
     // Stage 10, where refusal 10 was not given.

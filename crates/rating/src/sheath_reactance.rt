@@ -5,8 +5,9 @@ ghost use Rattle.rating.specs.Values.{X, XLow};
 
 use super::judge::FitCase;
 use fields::{ARRANGEMENT, FREQUENCY, SHEATH_DIAMETER, SPACING};
-use stages::reactance::reactance_low;
-use stages::spacing::{sheath_reactance, sheath_reactance_low, spacing_log_high, spacing_log_low};
+use stages::reactance::reactance;
+use stages::spacing::{sheath_reactance, spacing_log};
+use wide::rounding::{Down, Up};
 
 impl FitCase {
     pub(crate) fn sheath_reactance(&self) -> u64
@@ -14,9 +15,9 @@ impl FitCase {
         ensures { result ≡ X self.now.case.x }
     {
         let x = &self.case.x;
-        sheath_reactance(
+        sheath_reactance::<Up>(
             self.b,
-            spacing_log_high(
+            spacing_log::<Up>(
                 x[ARRANGEMENT],
                 u64::from(x[SPACING]),
                 u64::from(x[SHEATH_DIAMETER]),
@@ -29,9 +30,9 @@ impl FitCase {
         ensures { result ≡ XLow self.now.case.x }
     {
         let x = &self.case.x;
-        sheath_reactance_low(
-            reactance_low(u64::from(x[FREQUENCY])),
-            spacing_log_low(
+        sheath_reactance::<Down>(
+            reactance::<Down>(u64::from(x[FREQUENCY])),
+            spacing_log::<Down>(
                 x[ARRANGEMENT],
                 u64::from(x[SPACING]),
                 u64::from(x[SHEATH_DIAMETER]),

@@ -6,7 +6,9 @@ use Rattle.rating.specs.declared.arrangement.Losses.{Losses}
 use Rattle.rating.specs.declared.conductor.Conduction.{Conduction}
 use Rattle.rating.specs.declared.refusal.Refusal.{Refusal}
 use Rattle.rating.specs.Refusal.{number_of}
+use Rattle.stages.specs.declared.thermal.Thermal.{Thermal}
 use Rattle.formulas.specs.Laws.Ranges.{In}
+use Rattle.fields.specs.Fields as Field
 use Rattle.rating.specs.Values.{R', zs, zp, ys, yp, R, rise_of}
 use Rattle.rating.specs.Arrangement.{Arrangement, alternating}
 use Rattle.rating.specs.Arrangements.{own}
@@ -21,6 +23,13 @@ pub record MetalLimits (field metal : ℕ) (θ : ℤ) : Type 0 where
   pub resistance : field ≤ 20000000
   pub code : In 1 6 metal
   pub temperature : InZ (neg_ℤ (pos 4000)) (pos 25000) θ
+
+-- t holds T1 to T4 of the case x
+pub record IsThermal (x : List ℕ) (t : Thermal) : Type 0 where
+  pub t1_is : t.t1 ≡ Field.t1 x
+  pub t2_is : t.t2 ≡ Field.t2 x
+  pub t3_is : t.t3 ≡ Field.t3 x
+  pub t4_is : t.t4 ≡ Field.t4 x
 
 -- what ys, yp and R are worked out from, after refusal 8
 pub record ConductorTakes (x : List ℕ) (rc skin proximity : ℕ) : Type 0 where

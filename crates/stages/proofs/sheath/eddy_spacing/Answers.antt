@@ -6,8 +6,8 @@ use Rattle.formulas.specs.Laws.Bounds.{most_eddy_spacing}
 use Rattle.stages.proofs.Quotients.{quotient_up_fits}
 use Rattle.stages.proofs.sheath.eddy_spacing.Goals as goal
 
-pub mul_div_up-requires : goal.mul_div_up-requires
-mul_div_up-requires c = let s²>0 = mul-pos c.requires.s>0 c.requires.s>0 in
+pub mul_div-requires : goal.mul_div-requires
+mul_div-requires c = let s²>0 = mul-pos c.requires.s>0 c.requires.s>0 in
     quotient_up_fits most_eddy_spacing (omega arith) (omega (arith, mul-le-mul c.requires.apart c.requires.apart)) tt
 
 pub overflow_mul-d : goal.overflow_mul-d
@@ -24,4 +24,4 @@ overflow_mul-s-2 c = omega (arith, mul-le-mul c.requires.s_most c.requires.s_mos
 
 pub returns : goal.returns
 unfolding eddy_spacing tera
-returns c = c.mul_div_up.ensures
+returns c = c.mul_div.ensures

@@ -6,19 +6,19 @@ use Rattle.fields.specs.Fields as Field
 use Rattle.rating.specs.Values.{Wd}
 use Rattle.rating.proofs.Laws.Ranges.{B_range, insulation_log_range}
 use Rattle.rating.proofs.case.SoundCase.dielectric_loss.Goals as goal
-use Rattle.rating.proofs.case.SoundCase.dielectric_loss.Goals.{After-log_low}
+use Rattle.rating.proofs.case.SoundCase.dielectric_loss.Goals.{After-log}
 
 log_is :
-    (c : After-log_low) →
+    (c : After-log) →
     let x = c.args.self.now.x in
-    c.log_low.result ≡ log_low (Field.insulation_diameter x) (Field.screen_diameter x)
+    c.log.result ≡ log_low (Field.insulation_diameter x) (Field.screen_diameter x)
 log_is c =
     let di = c.from-4.ensures in
     let ds = c.from-5.ensures in
-    c.log_low.ensures ∙ (λ i. log_low (di i) (ds i))
+    c.log.ensures ∙ (λ i. log_low (di i) (ds i))
 
-pub log_low-requires : goal.log_low-requires
-log_low-requires c =
+pub log-requires : goal.log-requires
+log-requires c =
     let fine = c.args.self.now.sound in
     omega
     (arith, c.from-5.ensures, c.from-4.ensures, fine.insulation_diameter, fine.screen_diameter, fine.insulated)
@@ -42,5 +42,5 @@ returns c =
     let u0 = c.from-2.ensures in
     let t = c.from-3.ensures in
     let b = c.requires in
-    let log = log_is (goal.at.returns c).After-log_low in
+    let log = log_is (goal.at.returns c).After-log in
     c.dielectric_loss.ensures ∙ (λ i. dielectric_loss (e i) (u0 i) (t i) (b i) (log i))

@@ -8,17 +8,15 @@ pub dielectric_rise-requires : goal.dielectric_rise-requires
 dielectric_rise-requires c =
     let self = c.args.self.now in
     let fine = self.fit.sound in
+    let t = c.thermal.ensures in
     record {
       n_most = c.requires;
       wd_most = omega (arith, self.wd_is, Wd_most fine);
-      thermal = thermal_ranges fine c.from.ensures c.from-2.ensures c.from-3.ensures c.from-4.ensures;
+      thermal = thermal_ranges fine t.t1_is t.t2_is t.t3_is t.t4_is;
     }
 
 pub returns : goal.returns
 returns c =
     let wd = c.args.self.now.wd_is in
-    let t1 = c.from.ensures in
-    let t2 = c.from-2.ensures in
-    let t3 = c.from-3.ensures in
-    let t4 = c.from-4.ensures in
-    c.dielectric_rise.ensures ∙ (λ i. dielectric_rise c.args.n (wd i) (t1 i) (t2 i) (t3 i) (t4 i))
+    let t = c.thermal.ensures in
+    c.dielectric_rise.ensures ∙ (λ i. dielectric_rise c.args.n (wd i) (t.t1_is i) (t.t2_is i) (t.t3_is i) (t.t4_is i))

@@ -5,20 +5,20 @@ use Rattle.fields.specs.Fields as Field
 use Rattle.rating.specs.Values.{X}
 use Rattle.rating.proofs.Laws.Ranges.{B_range, spacing_log_high_most}
 use Rattle.rating.proofs.judge.FitCase.sheath_reactance.Goals as goal
-use Rattle.rating.proofs.judge.FitCase.sheath_reactance.Goals.{After-spacing_log_high}
+use Rattle.rating.proofs.judge.FitCase.sheath_reactance.Goals.{After-spacing_log}
 
 log_is :
-    (c : After-spacing_log_high) →
+    (c : After-spacing_log) →
     let x = c.args.self.now.case.x in
-    c.spacing_log_high.result ≡ spacing_log_high (Field.arrangement x) (Field.spacing x) (Field.sheath_diameter x)
+    c.spacing_log.result ≡ spacing_log_high (Field.arrangement x) (Field.spacing x) (Field.sheath_diameter x)
 log_is c =
     let x = c.args.self.now.case.x in
     let s = c.from.ensures in
     let d = c.from-2.ensures in
-    c.spacing_log_high.ensures ∙ (λ i. spacing_log_high (Field.arrangement x) (s i) (d i))
+    c.spacing_log.ensures ∙ (λ i. spacing_log_high (Field.arrangement x) (s i) (d i))
 
-pub spacing_log_high-requires : goal.spacing_log_high-requires
-spacing_log_high-requires c =
+pub spacing_log-requires : goal.spacing_log-requires
+spacing_log-requires c =
     let fine = c.args.self.now.fit.sound in
     omega (arith, c.from-2.ensures, c.from.ensures, fine.spacing, fine.sheath_diameter, c.requires)
 
@@ -34,5 +34,5 @@ pub returns : goal.returns
 unfolding X
 returns c =
     let b = c.args.self.now.b_is in
-    let log = log_is (goal.at.returns c).After-spacing_log_high in
+    let log = log_is (goal.at.returns c).After-spacing_log in
     c.sheath_reactance.ensures ∙ (λ i. sheath_reactance (b i) (log i))

@@ -1,4 +1,4 @@
--- `unit_rise_of` is the definition: every number is in the range that its arrangement keeps.
+-- `unit_rise` is the definition: every number is in the range that its arrangement keeps.
 use Rattle.std.proofs.Common.{ap, arith, subst, sym, ℕ, ◌∙◌}
 use Rattle.formulas.specs.Rating.{unit_rise}
 use Rattle.fields.specs.Fields as Field
@@ -17,16 +17,13 @@ unit_rise-requires c =
     let ν : InRange (alternating l.n l.s l.w self.case.x) =
     subst InRange c.requires.numbers_are (numbers_in_range self.fit)
     in
-    let t1 = c.from.ensures in
-    let t2 = c.from-2.ensures in
-    let t3 = c.from-3.ensures in
-    let t4 = c.from-4.ensures in
+    let t = c.thermal.ensures in
     record {
       n_most = ν.n.most;
       r_most = omega (arith, self.r_is, ν.R);
       s_most = ν.S;
       w_most = ν.W;
-      thermal = thermal_ranges self.fit.sound t1 t2 t3 t4;
+      thermal = thermal_ranges self.fit.sound t.t1_is t.t2_is t.t3_is t.t4_is;
     }
 
 pub returns : goal.returns
@@ -35,11 +32,8 @@ returns c =
     let x = c.args.self.now.case.x in
     let l = c.args.l in
     let r = c.args.self.now.r_is in
-    let t1 = c.from.ensures in
-    let t2 = c.from-2.ensures in
-    let t3 = c.from-3.ensures in
-    let t4 = c.from-4.ensures in
+    let t = c.thermal.ensures in
     let rise : Numbers → ℕ = λ ν. unit_rise ν.n ν.R ν.S ν.W (Field.t1 x) (Field.t2 x) (Field.t3 x) (Field.t4 x) in
     c.unit_rise.ensures
-    ∙ (λ i. unit_rise l.n (r i) l.s l.w (t1 i) (t2 i) (t3 i) (t4 i))
+    ∙ (λ i. unit_rise l.n (r i) l.s l.w (t.t1_is i) (t.t2_is i) (t.t3_is i) (t.t4_is i))
     ∙ sym (ap rise c.requires.numbers_are)

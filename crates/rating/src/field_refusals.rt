@@ -22,15 +22,14 @@ use stages::resistance::signed;
 pub(crate) fn within(low: u32, high: u32, n: u32) -> bool
     ensures { result ≡ Within.within low high n }
 {
-    (low <= n) & (n <= high)
+    (low..=high).contains(&n)
 }
 
 // A temperature from low to high.
 pub(crate) fn within_signed(low: i64, high: i64, theta: u32) -> bool
     ensures { result ≡ Within.within_z low high (to_z w32 theta) }
 {
-    let t = signed(theta);
-    (low <= t) & (t <= high)
+    (low..=high).contains(&signed(theta))
 }
 
 // The first temperature is at most the second.

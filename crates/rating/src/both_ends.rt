@@ -8,6 +8,7 @@ use super::arrangement::{Losses, Rules, armourless};
 use super::judge::FitCase;
 use fields::{Case, SHEATH_DIAMETER, SPACING};
 use stages::sheath::circulating_loss;
+use wide::rounding::Up;
 
 pub(crate) fn both_ends_rules(x: Case) -> Rules
     ensures { Asks both_ends x result }
@@ -26,7 +27,7 @@ pub(crate) fn both_ends_losses(p: &FitCase) -> Losses
     requires { own p.now.case.x ≡ both_ends }
     ensures { Loses both_ends p.now.case.x result }
 {
-    let reactance = p.sheath_reactance();
+    let reactance = p.sheath_reactance::<Up>(p.b);
     Losses {
         n: 1,
         ra: 0,

@@ -1,38 +1,23 @@
-// Stage 6 on a case whose sheaths do not overlap: X, and X- from below.
-ghost use Rattle.std.specs.Prelude.{◌≡◌, ◌≤◌};
-ghost use Rattle.fields.specs.Fields.{sheath_diameter, spacing};
-ghost use Rattle.rating.specs.Values.{X, XLow};
+// Stage 6 on a case whose sheaths do not overlap: an end of the sheath's reactance from the same end of B. From above it is X, from below X-.
+ghost use Rattle.std.specs.Prelude.{◌≡◌};
+ghost use Rattle.fields.specs.Fields as Field;
+ghost use Rattle.rating.specs.Laws.Steps.{SheathReactanceTakes};
 
 use super::judge::FitCase;
-use fields::{ARRANGEMENT, FREQUENCY, SHEATH_DIAMETER, SPACING};
-use stages::reactance::reactance;
+use fields::{ARRANGEMENT, SHEATH_DIAMETER, SPACING};
+use stages::ends::End;
 use stages::spacing::{sheath_reactance, spacing_log};
-use wide::rounding::{Down, Up};
 
 impl FitCase {
-    pub(crate) fn sheath_reactance(&self) -> u64
-        requires { sheath_diameter self.now.case.x ≤ spacing self.now.case.x }
-        ensures { result ≡ X self.now.case.x }
+    pub(crate) fn sheath_reactance<R: End>(&self, b: u64) -> u64
+        requires { SheathReactanceTakes R.spacing_log self.now.case.x b }
+        ensures { let x = self.now.case.x in
+            result ≡ R.sheath_reactance b (R.spacing_log (Field.arrangement x) (Field.spacing x) (Field.sheath_diameter x)) }
     {
         let x = &self.case.x;
-        sheath_reactance::<Up>(
-            self.b,
-            spacing_log::<Up>(
-                x[ARRANGEMENT],
-                u64::from(x[SPACING]),
-                u64::from(x[SHEATH_DIAMETER]),
-            ),
-        )
-    }
-
-    pub(crate) fn sheath_reactance_low(&self) -> u64
-        requires { sheath_diameter self.now.case.x ≤ spacing self.now.case.x }
-        ensures { result ≡ XLow self.now.case.x }
-    {
-        let x = &self.case.x;
-        sheath_reactance::<Down>(
-            reactance::<Down>(u64::from(x[FREQUENCY])),
-            spacing_log::<Down>(
+        sheath_reactance::<R>(
+            b,
+            spacing_log::<R>(
                 x[ARRANGEMENT],
                 u64::from(x[SPACING]),
                 u64::from(x[SHEATH_DIAMETER]),

@@ -14,10 +14,12 @@ use super::field_refusals::{not_hotter, within, within_signed};
 use super::judge::FitCase;
 use fields::{
     ARMOUR_DIAMETER, ARMOUR_METAL, ARMOUR_RESISTANCE, ARMOUR_TEMPERATURE, AXIS_DISTANCE,
-    CONDUCTOR_TEMPERATURE, Case, SHEATH_DIAMETER, SHEATH_METAL, SPACING,
+    CONDUCTOR_TEMPERATURE, Case, FREQUENCY, SHEATH_DIAMETER, SHEATH_METAL, SPACING,
 };
 use stages::armour::{screened_loss, unscreened_loss};
+use stages::reactance::reactance;
 use stages::sheath::sl_loss;
+use wide::rounding::{Down, Up};
 
 fn armour_limits(x: Case) -> bool
     ensures { result ≡ SlType.armour_limits x }
@@ -55,7 +57,8 @@ fn armour_loss(p: &FitCase, ra: u64) -> u64
         u64::from(p.case.x[AXIS_DISTANCE]),
         u64::from(p.case.x[ARMOUR_DIAMETER]),
     );
-    screened_loss(unscreened, p.sheath_reactance_low(), p.rs)
+    let b_low = reactance::<Down>(u64::from(p.case.x[FREQUENCY]));
+    screened_loss(unscreened, p.sheath_reactance::<Down>(b_low), p.rs)
 }
 
 pub(crate) fn sl_type_losses(p: &FitCase) -> Losses
@@ -64,7 +67,7 @@ pub(crate) fn sl_type_losses(p: &FitCase) -> Losses
 {
     let x = &p.case.x;
     let ra = resistance_of(x[ARMOUR_RESISTANCE], x[ARMOUR_METAL], x[ARMOUR_TEMPERATURE]);
-    let reactance = p.sheath_reactance();
+    let reactance = p.sheath_reactance::<Up>(p.b);
     Losses {
         n: 3,
         ra,

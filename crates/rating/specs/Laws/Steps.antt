@@ -7,6 +7,7 @@ use Rattle.rating.specs.declared.conductor.Conduction.{Conduction}
 use Rattle.rating.specs.declared.refusal.Refusal.{Refusal}
 use Rattle.rating.specs.Refusal.{number_of}
 use Rattle.stages.specs.declared.thermal.Thermal.{Thermal}
+use Rattle.formulas.specs.Laws.Bounds.{most_reactance, most_spacing_log}
 use Rattle.formulas.specs.Laws.Ranges.{In}
 use Rattle.fields.specs.Fields as Field
 use Rattle.rating.specs.Values.{R', zs, zp, ys, yp, R, rise_of}
@@ -61,6 +62,12 @@ pub record Asks (a : Arrangement) (x : List ℕ) (r : Rules) : Type 0 where
 -- the first of refusals 1 to 7 that is given, or none is
 abbrev pub ChecksFields : List ℕ → Result (Unit {0}) Refusal → Type 0
 ChecksFields x r = MatchResult r (λ _. field_refusal x ≡ 0) (λ refusal. field_refusal x ≡ number_of refusal)
+
+-- what an end of the sheath's reactance is worked out from: sheaths that do not overlap, and that end of B
+pub record SheathReactanceTakes (spacing_log : ℕ → ℕ → ℕ → ℕ) (x : List ℕ) (b : ℕ) : Type 0 where
+  pub apart : Field.sheath_diameter x ≤ Field.spacing x
+  pub log_most : spacing_log (Field.arrangement x) (Field.spacing x) (Field.sheath_diameter x) ≤ most_spacing_log
+  pub b_most : b ≤ most_reactance
 
 -- l holds n, RA, X, S and W of the case x in the arrangement a, whose current alternates
 pub record Loses (a : Arrangement) (x : List ℕ) (l : Losses) : Type 0 where

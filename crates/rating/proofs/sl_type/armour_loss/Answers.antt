@@ -1,5 +1,6 @@
 -- `armour_loss` is the definition: the loss before the screening, then the screening by the sheaths.
-use Rattle.std.proofs.Common.{arith, ◌<◌, ◌∙◌, ◌≡◌}
+use Rattle.std.proofs.Common.{ap, arith, ◌<◌, ◌∙◌, ◌≡◌}
+use Rattle.formulas.specs.Reactance.{reactance_low}
 use Rattle.formulas.specs.Armour.{unscreened_loss, screened_loss, armour_loss}
 use Rattle.formulas.proofs.Laws.Ranges.{unscreened_loss_most}
 use Rattle.fields.specs.Fields as Field
@@ -7,10 +8,11 @@ use Rattle.rating.specs.Values.{RA, B}
 use Rattle.rating.specs.SlType.{sl_type}
 use Rattle.rating.specs.Laws.Fit.{Fit}
 use Rattle.rating.proofs.Own.{fits}
+use Rattle.rating.proofs.SheathReactance.{low_takes, XLow_is}
 use Rattle.rating.proofs.Laws.Ranges.{Rs_range, B_range, X_low_range}
 use Rattle.rating.proofs.Laws.SlType.{Armoured, armoured, RA_range}
 use Rattle.rating.proofs.sl_type.armour_loss.Goals as goal
-use Rattle.rating.proofs.sl_type.armour_loss.Goals.{After-unscreened_loss-unscreened}
+use Rattle.rating.proofs.sl_type.armour_loss.Goals.{After-unscreened_loss-unscreened, After-reactance-b_low}
 
 unscreened_is :
     (c : After-unscreened_loss-unscreened) →
@@ -41,8 +43,18 @@ unscreened_loss-unscreened-requires c =
           };
     }
 
-pub sheath_reactance_low-requires : goal.sheath_reactance_low-requires
-sheath_reactance_low-requires c = (armoured (fits c.requires.own_is c.args.p.now.fit)).apart
+b_low_is :
+    (c : After-reactance-b_low) → c.reactance-b_low.result ≡ reactance_low (Field.frequency c.args.p.now.case.x)
+b_low_is c = c.reactance-b_low.ensures ∙ ap reactance_low c.from-3.ensures
+
+pub reactance-b_low-requires : goal.reactance-b_low-requires
+reactance-b_low-requires c = omega (arith, c.from-3.ensures, c.args.p.now.fit.sound.frequency)
+
+pub sheath_reactance-requires : goal.sheath_reactance-requires
+sheath_reactance-requires c =
+    let fit = c.args.p.now.fit in
+    low_takes fit.sound (armoured (fits c.requires.own_is fit)).apart
+    (b_low_is (goal.at.sheath_reactance-requires c).After-reactance-b_low)
 
 pub screened_loss-requires : goal.screened_loss-requires
 screened_loss-requires c =
@@ -50,6 +62,8 @@ screened_loss-requires c =
     let fit : Fit sl_type x = fits c.requires.own_is c.args.p.now.fit in
     let known : Armoured x = armoured fit in
     let dA>0 : 0 < Field.armour_diameter x = omega (arith, known.diameter) in
+    let b_low = b_low_is (goal.at.screened_loss-requires c).After-reactance-b_low in
+    let x_low = XLow_is x b_low c.sheath_reactance.ensures in
     record {
       w_most =
           omega (
@@ -59,7 +73,7 @@ screened_loss-requires c =
           );
       ratio =
           record {
-            x_most = omega (arith, c.sheath_reactance_low.ensures, X_low_range fit.sound known.apart);
+            x_most = omega (arith, x_low, X_low_range fit.sound known.apart);
             rs_least = omega (arith, c.args.p.now.rs_is, Rs_range fit.sound);
           };
     }
@@ -68,6 +82,7 @@ pub returns : goal.returns
 unfolding armour_loss
 returns c =
     let w = unscreened_is (goal.at.returns c).After-unscreened_loss-unscreened in
-    let x = c.sheath_reactance_low.ensures in
+    let b_low = b_low_is (goal.at.returns c).After-reactance-b_low in
+    let x = XLow_is c.args.p.now.case.x b_low c.sheath_reactance.ensures in
     let rs = c.args.p.now.rs_is in
     c.screened_loss.ensures ∙ (λ i. screened_loss (w i) (x i) (rs i))

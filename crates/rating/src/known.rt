@@ -2,16 +2,12 @@
 ghost use Rattle.std.specs.Prelude.{◌≡◌, IfOk, IfErr};
 ghost use Rattle.rating.specs.Arrangements.{own};
 ghost use Rattle.rating.specs.Kind.{arrangement_as};
-ghost use Rattle.rating.specs.Laws.Steps.{Asks, Refuses};
+ghost use Rattle.rating.specs.Laws.Steps.{Refuses};
 
-use super::arrangement::{Kind, Rules};
-use super::both_ends::both_ends_rules;
+use super::arrangement::{Arrangement, Kind};
 use super::case::SoundCase;
-use super::common_sheath::common_sheath_rules;
 use super::field_refusals::check_fields;
-use super::one_point::one_point_rules;
 use super::refusal::Refusal;
-use super::sl_type::sl_type_rules;
 use fields::{ARRANGEMENT, Case};
 
 #[derive(Clone, Copy)]
@@ -30,22 +26,11 @@ impl KnownCase {
         Ok(KnownCase { x, kind })
     }
 
-    fn rules(&self) -> Rules
-        ensures { Asks (own self.now.x) self.now.x result }
-    {
-        match self.kind {
-            Kind::BothEnds => both_ends_rules(self.x),
-            Kind::OnePoint(_) => one_point_rules(self.x),
-            Kind::SlType => sl_type_rules(self.x),
-            Kind::CommonSheath => common_sheath_rules(self.x),
-        }
-    }
-
     pub(crate) fn checked(self) -> Result<SoundCase, Refusal>
         ensures same { IfOk result (λ sound. sound.x ≡ self.x) }
         ensures refused { IfErr result (Refuses self.x) }
     {
-        let rules = self.rules();
+        let rules = self.kind.rules(self.x);
         check_fields(self.x, rules)?;
         Ok(SoundCase {
             x: self.x,

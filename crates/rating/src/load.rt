@@ -5,31 +5,16 @@ ghost use Rattle.rating.specs.Laws.Steps.{Loses, Warms};
 ghost use Rattle.rating.specs.Rate.{answer_of, rate_of};
 ghost use Rattle.rating.specs.Stage10.{E, current_of};
 
-use super::arrangement::{Kind, Losses};
-use super::both_ends::both_ends_losses;
-use super::common_sheath::common_sheath_losses;
+use super::arrangement::{Arrangement, Losses};
 use super::judge::FitCase;
-use super::one_point::one_point_losses;
 use super::rate::Rated;
 use super::refusal::Refusal;
-use super::sl_type::sl_type_losses;
 use stages::rating::{rating, unit_rise};
 
 // The largest rating that refusal 11 lets pass, in mA.
 const MOST_CURRENT: u64 = 5_000_000;
 
 impl FitCase {
-    fn losses(&self) -> Losses
-        ensures { Loses (own self.now.case.x) self.now.case.x result }
-    {
-        match self.case.kind {
-            Kind::BothEnds => both_ends_losses(self),
-            Kind::OnePoint(formation) => one_point_losses(self, formation),
-            Kind::SlType => sl_type_losses(self),
-            Kind::CommonSheath => common_sheath_losses(self),
-        }
-    }
-
     fn unit_rise(&self, l: Losses) -> u64
         requires { Loses (own self.now.case.x) self.now.case.x l }
         ensures { result ≡ E self.now.case.x }
@@ -48,7 +33,7 @@ impl FitCase {
     pub(crate) fn loaded(&self) -> Result<Rated, Refusal>
         ensures { answer_of result ≡ rate_of self.now.case.x }
     {
-        let l = self.losses();
+        let l = self.case.kind.losses(self);
         let dd = self.dielectric_rise(l.n);
         let permitted = self.case.rise();
         if 90000000 * permitted < 10 * dd {

@@ -3,12 +3,11 @@ ghost use Rattle.std.specs.Prelude.{◌≡◌};
 ghost use Rattle.formulas.specs.Armour.{armour_loss};
 ghost use Rattle.fields.specs.Fields.{axis_distance, armour_diameter};
 ghost use Rattle.rating.specs.Arrangements.{own};
-ghost use Rattle.rating.specs.SlType;
+ghost use Rattle.rating.specs.SlType as Spec;
 ghost use Rattle.rating.specs.SlType.{sl_type};
-ghost use Rattle.rating.specs.Laws.Steps.{Asks, Loses};
 ghost use Rattle.rating.specs.Values.{Rs, RA, B, XLow};
 
-use super::arrangement::{Losses, Rules, axis_limits};
+use super::arrangement::{Arrangement, Losses, Rules, axis_limits};
 use super::case::resistance_of;
 use super::field_refusals::{not_hotter, within, within_signed};
 use super::judge::FitCase;
@@ -22,27 +21,13 @@ use stages::sheath::sl_loss;
 use wide::rounding::{Down, Up};
 
 fn armour_limits(x: Case) -> bool
-    ensures { result ≡ SlType.armour_limits x }
+    ensures { result ≡ Spec.armour_limits x }
 {
     within(1, 6, x[ARMOUR_METAL])
         & within(1000, 20000000, x[ARMOUR_RESISTANCE])
         & within_signed(-4000, 25000, x[ARMOUR_TEMPERATURE])
         & axis_limits(x)
         & within(100, 50000, x[ARMOUR_DIAMETER])
-}
-
-pub(crate) fn sl_type_rules(x: Case) -> Rules
-    ensures { Asks sl_type x result }
-{
-    Rules {
-        limits: armour_limits(x),
-        unused: true,
-        geometry: (x[SHEATH_DIAMETER] <= x[SPACING])
-            & (2 * u64::from(x[AXIS_DISTANCE]) <= u64::from(x[ARMOUR_DIAMETER])),
-        heat: not_hotter(x[ARMOUR_TEMPERATURE], x[CONDUCTOR_TEMPERATURE]),
-        metal: (x[SHEATH_METAL] == 1) & (x[ARMOUR_METAL] == 6),
-        eddies: false,
-    }
 }
 
 fn armour_loss(p: &FitCase, ra: u64) -> u64
@@ -61,18 +46,34 @@ fn armour_loss(p: &FitCase, ra: u64) -> u64
     screened_loss(unscreened, p.sheath_reactance::<Down>(b_low), p.rs)
 }
 
-pub(crate) fn sl_type_losses(p: &FitCase) -> Losses
-    requires { own p.now.case.x ≡ sl_type }
-    ensures { Loses sl_type p.now.case.x result }
-{
-    let x = &p.case.x;
-    let ra = resistance_of(x[ARMOUR_RESISTANCE], x[ARMOUR_METAL], x[ARMOUR_TEMPERATURE]);
-    let reactance = p.sheath_reactance::<Up>(p.b);
-    Losses {
-        n: 3,
-        ra,
-        x: reactance,
-        s: sl_loss(reactance, p.rs),
-        w: armour_loss(p, ra),
+#[derive(Clone, Copy)]
+pub struct SlType;
+
+impl Arrangement for SlType {
+    ghost adds = { λ _. sl_type };
+
+    fn rules(&self, x: Case) -> Rules {
+        Rules {
+            limits: armour_limits(x),
+            unused: true,
+            geometry: (x[SHEATH_DIAMETER] <= x[SPACING])
+                & (2 * u64::from(x[AXIS_DISTANCE]) <= u64::from(x[ARMOUR_DIAMETER])),
+            heat: not_hotter(x[ARMOUR_TEMPERATURE], x[CONDUCTOR_TEMPERATURE]),
+            metal: (x[SHEATH_METAL] == 1) & (x[ARMOUR_METAL] == 6),
+            eddies: false,
+        }
+    }
+
+    fn losses(&self, p: &FitCase) -> Losses {
+        let x = &p.case.x;
+        let ra = resistance_of(x[ARMOUR_RESISTANCE], x[ARMOUR_METAL], x[ARMOUR_TEMPERATURE]);
+        let reactance = p.sheath_reactance::<Up>(p.b);
+        Losses {
+            n: 3,
+            ra,
+            x: reactance,
+            s: sl_loss(reactance, p.rs),
+            w: armour_loss(p, ra),
+        }
     }
 }

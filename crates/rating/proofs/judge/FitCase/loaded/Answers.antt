@@ -3,17 +3,24 @@ use Rattle.std.proofs.Common.{[], ap, arith, le-ltb, lt-ltb, ltb, subst, sym, �
 use Rattle.formulas.specs.Refusals.{dielectric_refused, current_refused}
 use Rattle.rating.specs.Values.{rise_of}
 use Rattle.rating.specs.Arrangement.{alternating}
+use Rattle.rating.specs.Arrangements.{own}
+use Rattle.rating.specs.Laws.Steps.{Loses}
+use Rattle.rating.proofs.Own.{loses}
 use Rattle.rating.specs.Stage10.{numbers_of}
 use Rattle.rating.specs.Rate.{rated, loaded, sheet_of}
 use Rattle.rating.proofs.Laws.Rise.{rise_range}
 use Rattle.rating.proofs.Laws.Arrangement.{InRange}
 use Rattle.rating.proofs.Laws.Stage10.{numbers_in_range}
 use Rattle.rating.proofs.judge.FitCase.loaded.Goals as goal
-use Rattle.rating.proofs.judge.FitCase.loaded.Goals.{After-dielectric_rise-dd, After-rise-permitted}
+use Rattle.rating.proofs.judge.FitCase.loaded.Goals.{After-losses-l, After-dielectric_rise-dd, After-rise-permitted}
+
+-- the losses are those of the case's own arrangement
+own_losses : (c : After-losses-l) → Loses (own c.args.self.now.case.x) c.args.self.now.case.x c.losses-l.result
+own_losses c = loses c.args.self.now.case.has c.losses-l.ensures
 
 dd_is : (c : After-dielectric_rise-dd) → c.dielectric_rise-dd.result ≡ (numbers_of c.args.self.now.case.x).dd
 unfolding alternating
-dd_is c = c.dielectric_rise-dd.ensures ∙ sym (ap (λ ν. ν.dd) c.losses-l.ensures.numbers_are)
+dd_is c = c.dielectric_rise-dd.ensures ∙ sym (ap (λ ν. ν.dd) (own_losses c.before).numbers_are)
 
 -- the code's test of refusal 10 is the definition's
 hot :
@@ -31,7 +38,7 @@ unfolding alternating
 dielectric_rise-dd-requires c =
     let l = c.losses-l.result in
     let ν : InRange (alternating l.n l.s l.w c.args.self.now.case.x) =
-    subst InRange c.losses-l.ensures.numbers_are (numbers_in_range c.args.self.now.fit)
+    subst InRange (own_losses (goal.at.dielectric_rise-dd-requires c).After-losses-l).numbers_are (numbers_in_range c.args.self.now.fit)
     in
     ν.n.most
 
@@ -71,7 +78,7 @@ pub returns : goal.returns
 unfolding loaded current_refused rated sheet_of alternating
 returns c =
     let p = c.args.self.now in
-    let l = c.losses-l.ensures in
+    let l = own_losses (goal.at.returns c).After-losses-l in
     let r = p.r_is ∙ sym (ap (λ ν. ν.R) l.numbers_are) in
     let s = sym (ap (λ ν. ν.S) l.numbers_are) in
     let w = sym (ap (λ ν. ν.W) l.numbers_are) in

@@ -1,5 +1,6 @@
 -- What the tests of the fields refuse is refused, and what they let pass is sound.
 use Rattle.rating.specs.Laws.Steps.{Refuses}
+use Rattle.rating.proofs.Own.{asks}
 use Rattle.rating.proofs.Refused.{handed_on, fields_refused}
 use Rattle.rating.proofs.Laws.Sound.{sound}
 use Rattle.rating.proofs.known.KnownCase.checked.Goals as goal
@@ -16,5 +17,5 @@ invariant_of-result c =
       has = c.args.self.has;
       none_given = none_given;
       sound = sound c.args.self.x none_given;
-      eddies_is = c.rules-rules.ensures.eddies;
+      eddies_is = (asks c.args.self.has c.rules-rules.ensures).eddies;
     }

@@ -1,7 +1,7 @@
--- `both_ends_rules` is the definition: each test is its test.
+-- `rules` is the definition: each test is its test.
 use Rattle.std.proofs.Common.{refl}
 use Rattle.rating.specs.BothEnds.{both_ends}
-use Rattle.rating.proofs.both_ends.both_ends_rules.Goals as goal
+use Rattle.rating.proofs.both_ends.BothEndsArrangement.rules.Goals as goal
 
 pub returns : goal.returns
 unfolding both_ends

@@ -1,4 +1,4 @@
--- `common_sheath_losses` is the definition: the cores lie within the sheath.
+-- `losses` is the definition: the cores lie within the sheath.
 use Rattle.std.proofs.Common.{ap, arith, refl, sym, ◌∙◌}
 use Rattle.formulas.specs.CommonSheath.{common_loss}
 use Rattle.rating.specs.Arrangement.{alternating}
@@ -7,7 +7,7 @@ use Rattle.rating.specs.Laws.Fit.{Fit}
 use Rattle.rating.proofs.Own.{fits}
 use Rattle.rating.proofs.Laws.Ranges.{Rs_range, B_range}
 use Rattle.rating.proofs.Laws.CommonSheath.{Enclosed, enclosed}
-use Rattle.rating.proofs.common_sheath.common_sheath_losses.Goals as goal
+use Rattle.rating.proofs.common_sheath.CommonSheathArrangement.losses.Goals as goal
 
 pub common_loss-requires : goal.common_loss-requires
 common_loss-requires c =

@@ -1,11 +1,11 @@
--- `one_point_rules` is the definition: each test is its test, whichever j is.
+-- `rules` is the definition: each test is its test.
 use Rattle.std.proofs.Common.{refl}
 use Rattle.rating.specs.OnePoint.{one_point}
-use Rattle.rating.proofs.one_point.one_point_rules.Goals as goal
+use Rattle.rating.proofs.one_point.FormationArrangement.rules.Goals as goal
 
 pub returns : goal.returns
 unfolding one_point
-returns c j =
+returns c =
     record {
       known = refl;
       limits = refl;

@@ -1,7 +1,7 @@
--- `one_point_losses` is the definition: refusal 9 was not given.
+-- `losses` is the definition: refusal 9 was not given.
 use Rattle.std.proofs.Common.{ap, arith, lit≤, refl, sym, ◌∙◌, ◌≤◌}
-use Rattle.rating.specs.declared.arrangement.Formation.{Formation}
-use Rattle.rating.specs.declared.arrangement.Formation.TheVariants.{Trefoil, Flat}
+use Rattle.rating.specs.declared.one_point.Formation.{Formation}
+use Rattle.rating.specs.declared.one_point.Formation.TheVariants.{Trefoil, Flat}
 use Rattle.formulas.specs.Sheath.{eddy_loss}
 use Rattle.rating.specs.Arrangement.{alternating}
 use Rattle.rating.specs.Kind.{j_of}
@@ -10,7 +10,7 @@ use Rattle.rating.specs.Laws.Fit.{Fit}
 use Rattle.rating.proofs.Own.{fits}
 use Rattle.rating.proofs.Laws.Ranges.{Rs_range}
 use Rattle.rating.proofs.Laws.OnePoint.{one_point_apart, eddies_small}
-use Rattle.rating.proofs.one_point.one_point_losses.Goals as goal
+use Rattle.rating.proofs.one_point.FormationArrangement.losses.Goals as goal
 
 j_most : (formation : Formation) → j_of formation ≤ 2
 j_most Trefoil = lit≤ tt
@@ -19,16 +19,16 @@ j_most Flat = lit≤ tt
 pub eddy_loss-requires : goal.eddy_loss-requires
 eddy_loss-requires c =
     let p = c.args.p.now in
-    let fit : Fit (one_point (j_of c.args.formation)) p.case.x = fits c.requires p.fit in
+    let fit : Fit (one_point (j_of c.args.self.now)) p.case.x = fits c.requires p.fit in
     let rs = Rs_range fit.sound in
-    let apart = one_point_apart (j_of c.args.formation) fit in
+    let apart = one_point_apart (j_of c.args.self.now) fit in
     record {
-      j_most = omega (arith, c.j.ensures, j_most c.args.formation);
+      j_most = omega (arith, c.j.ensures, j_most c.args.self.now);
       factor =
           record {
             rs>0 = omega (arith, p.rs_is, rs);
             rs_most = omega (arith, p.rs_is, rs);
-            b_most = omega (arith, p.b_is, p.rs_is, eddies_small (j_of c.args.formation) fit);
+            b_most = omega (arith, p.b_is, p.rs_is, eddies_small (j_of c.args.self.now) fit);
           };
       spacing =
           record {

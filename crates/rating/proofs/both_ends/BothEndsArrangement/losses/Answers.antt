@@ -1,4 +1,4 @@
--- `both_ends_losses` is the definition.
+-- `losses` is the definition.
 use Rattle.std.proofs.Common.{ap, refl, sym, ◌∙◌}
 use Rattle.formulas.specs.Sheath.{circulating_loss}
 use Rattle.rating.specs.Arrangement.{alternating}
@@ -7,7 +7,7 @@ use Rattle.rating.proofs.Own.{fits}
 use Rattle.rating.proofs.SheathReactance.{high_takes, X_is}
 use Rattle.rating.proofs.Laws.Ranges.{circulating_ranges}
 use Rattle.rating.proofs.Laws.BothEnds.{both_ends_apart}
-use Rattle.rating.proofs.both_ends.both_ends_losses.Goals as goal
+use Rattle.rating.proofs.both_ends.BothEndsArrangement.losses.Goals as goal
 
 pub sheath_reactance-reactance-requires : goal.sheath_reactance-reactance-requires
 sheath_reactance-reactance-requires c =

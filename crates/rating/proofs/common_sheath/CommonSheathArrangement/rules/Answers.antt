@@ -1,7 +1,7 @@
--- `common_sheath_rules` is the definition: each test is its test.
+-- `rules` is the definition: each test is its test.
 use Rattle.std.proofs.Common.{refl}
 use Rattle.rating.specs.CommonSheath.{common_sheath}
-use Rattle.rating.proofs.common_sheath.common_sheath_rules.Goals as goal
+use Rattle.rating.proofs.common_sheath.CommonSheathArrangement.rules.Goals as goal
 
 pub returns : goal.returns
 unfolding common_sheath

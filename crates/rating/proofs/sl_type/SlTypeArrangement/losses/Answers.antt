@@ -1,4 +1,4 @@
--- `sl_type_losses` is the definition.
+-- `losses` is the definition.
 use Rattle.std.proofs.Common.{sym, ◌∙◌}
 use Rattle.formulas.specs.Sheath.{sl_loss}
 use Rattle.rating.specs.Arrangement.{alternating}
@@ -8,7 +8,7 @@ use Rattle.rating.proofs.Own.{fits}
 use Rattle.rating.proofs.SheathReactance.{high_takes, X_is}
 use Rattle.rating.proofs.Laws.Ranges.{circulating_ranges}
 use Rattle.rating.proofs.Laws.SlType.{armoured}
-use Rattle.rating.proofs.sl_type.sl_type_losses.Goals as goal
+use Rattle.rating.proofs.sl_type.SlTypeArrangement.losses.Goals as goal
 
 pub resistance_of-ra-requires : goal.resistance_of-ra-requires
 resistance_of-ra-requires c =

@@ -1,7 +1,7 @@
--- `sl_type_rules` is the definition: each test is its test.
+-- `rules` is the definition: each test is its test.
 use Rattle.std.proofs.Common.{refl}
 use Rattle.rating.specs.SlType.{sl_type}
-use Rattle.rating.proofs.sl_type.sl_type_rules.Goals as goal
+use Rattle.rating.proofs.sl_type.SlTypeArrangement.rules.Goals as goal
 
 pub returns : goal.returns
 unfolding sl_type

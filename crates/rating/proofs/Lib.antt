@@ -1,4 +1,6 @@
 pub mod Own
+pub mod Refused
 pub mod Temperatures
 pub mod Tests
+pub mod SheathReactance
 pub mod Laws

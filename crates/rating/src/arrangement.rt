@@ -1,27 +1,20 @@
 // The arrangements, and what each hands to the steps that all share: its part of refusals 3 to 9, and its losses.
 ghost use Rattle.std.specs.Prelude.{◌≡◌};
-ghost use Rattle.rating.specs.Arrangement;
+ghost use Rattle.rating.specs.Arrangement as Spec;
 ghost use Rattle.rating.specs.Arrangements.{own};
-ghost use Rattle.rating.specs.Laws.Steps.{Has, HasPassed, Asks, Loses};
+ghost use Rattle.rating.specs.Kind.{Picks, arrangement_as};
+ghost use Rattle.rating.specs.Laws.Steps.{Asks, Loses};
 
-use super::both_ends::{both_ends_losses, both_ends_rules};
-use super::common_sheath::{common_sheath_losses, common_sheath_rules};
+use super::both_ends::BothEnds;
+use super::common_sheath::CommonSheath;
 use super::field_refusals::within;
-use super::judge::Shared;
-use super::one_point::{one_point_losses, one_point_rules};
-use super::sl_type::{sl_type_losses, sl_type_rules};
+use super::judge::FitCase;
+use super::one_point::Formation;
+use super::refusal::Refusal;
+use super::sl_type::SlType;
 use fields::{
     ARMOUR_DIAMETER, ARMOUR_METAL, ARMOUR_RESISTANCE, ARMOUR_TEMPERATURE, AXIS_DISTANCE, Case,
 };
-
-// The arrangements, each a module with its rules and its losses. OnePoint has j, 1 in arrangement 3 and 2 in 4.
-#[derive(Clone, Copy)]
-pub enum Kind {
-    BothEnds,
-    OnePoint(u64),
-    SlType,
-    CommonSheath,
-}
 
 // Whether a case passes what it asks beyond every arrangement, for refusals 3 to 7; and whether refusal 9 is tried.
 #[derive(Clone, Copy)]
@@ -44,16 +37,78 @@ pub struct Losses {
     pub w: u64,
 }
 
+// What an arrangement adds to the steps that all share.
+pub trait Arrangement {
+    ghost adds: { Self → Spec.Arrangement };
+
+    fn rules(&self, x: Case) -> Rules
+        ensures { Asks (adds self.now) x result };
+
+    fn losses(&self, p: &FitCase) -> Losses
+        requires { own p.now.case.x ≡ adds self.now }
+        ensures { Loses (adds self.now) p.now.case.x result };
+}
+
+// The arrangements by their numbers.
+#[derive(Clone, Copy, Debug, PartialEq, Eq)]
+pub enum Kind {
+    BothEnds,
+    OnePoint(Formation),
+    SlType,
+    CommonSheath,
+}
+
+#[tactic(auto, unfolding(crate::specs::Arrangements::arrangement_of))]
+impl TryFrom<u32> for Kind {
+    type Error = Refusal;
+
+    ghost try_from_gives = { Picks };
+
+    fn try_from(number: u32) -> Result<Self, Refusal> {
+        match number {
+            1 | 2 => Ok(Kind::BothEnds),
+            3 => Ok(Kind::OnePoint(Formation::Trefoil)),
+            4 => Ok(Kind::OnePoint(Formation::Flat)),
+            5 => Ok(Kind::SlType),
+            6 => Ok(Kind::CommonSheath),
+            _ => Err(Refusal::Arrangement),
+        }
+    }
+}
+
+// Two matches in place of a generic function for each kind: `rate` then has one caller of each step, which the compiler draws in.
+impl Arrangement for Kind {
+    ghost adds = { arrangement_as };
+
+    fn rules(&self, x: Case) -> Rules {
+        match self {
+            Kind::BothEnds => BothEnds.rules(x),
+            Kind::OnePoint(formation) => formation.rules(x),
+            Kind::SlType => SlType.rules(x),
+            Kind::CommonSheath => CommonSheath.rules(x),
+        }
+    }
+
+    fn losses(&self, p: &FitCase) -> Losses {
+        match self {
+            Kind::BothEnds => BothEnds.losses(p),
+            Kind::OnePoint(formation) => formation.losses(p),
+            Kind::SlType => SlType.losses(p),
+            Kind::CommonSheath => CommonSheath.losses(p),
+        }
+    }
+}
+
 // The limits of c in a cable of three cores.
 pub(crate) fn axis_limits(x: Case) -> bool
-    ensures { result ≡ Arrangement.axis_limits x }
+    ensures { result ≡ Spec.axis_limits x }
 {
     within(100, 50000, x[AXIS_DISTANCE])
 }
 
 // Fields 17, 18, 19 and 21 are zero.
 pub(crate) fn no_armour(x: Case) -> bool
-    ensures { result ≡ Arrangement.no_armour x }
+    ensures { result ≡ Spec.no_armour x }
 {
     (x[ARMOUR_METAL] == 0)
         & (x[ARMOUR_RESISTANCE] == 0)
@@ -63,31 +118,7 @@ pub(crate) fn no_armour(x: Case) -> bool
 
 // Fields 17 to 21 are all zero.
 pub(crate) fn armourless(x: Case) -> bool
-    ensures { result ≡ Arrangement.armourless x }
+    ensures { result ≡ Spec.armourless x }
 {
     no_armour(x) & (x[AXIS_DISTANCE] == 0)
-}
-
-pub(crate) fn rules_of(x: Case, kind: Kind) -> Rules
-    requires { Has x kind }
-    ensures { Asks (own x) x result }
-{
-    match kind {
-        Kind::BothEnds => both_ends_rules(x),
-        Kind::OnePoint(_) => one_point_rules(x),
-        Kind::SlType => sl_type_rules(x),
-        Kind::CommonSheath => common_sheath_rules(x),
-    }
-}
-
-pub(crate) fn losses_of(x: Case, kind: Kind, p: Shared) -> Losses
-    requires { HasPassed x kind p }
-    ensures { Loses (own x) x result }
-{
-    match kind {
-        Kind::BothEnds => both_ends_losses(x, p),
-        Kind::OnePoint(j) => one_point_losses(x, j, p),
-        Kind::SlType => sl_type_losses(x, p),
-        Kind::CommonSheath => common_sheath_losses(x, p),
-    }
 }

@@ -4,4 +4,4 @@ use Rattle.rating.proofs.field_refusals.geometry_refused.Goals as goal
 
 pub returns : goal.returns
 unfolding geometry_refused
-returns c = simp (c.number.ensures.same, c.number-2.ensures.same, c.requires)
+returns c = simp (c.from.ensures, c.from-2.ensures, c.requires)

@@ -61,10 +61,11 @@ module _ (b t : List ℕ) (at n : ℕ) (part : Part b at n t) where
       (stands_in vs (i + 1) (omega arith) ∙ ap (stands vs b) place)
 
 -- a part of a slice that was written over
-pub put_spliced : (l : List ℕ) (at k : ℕ) (vs : List ℕ) → length vs ≡ k → put_mid at k l vs ≡ splice l at vs
+pub put_spliced : (l : List ℕ) (at k : ℕ) {us vs : List ℕ} → us ≡ vs → length vs ≡ k → put_mid at k l us ≡ splice l at vs
 unfolding splice
-put_spliced l at k vs size =
-    ap (λ (t : List ℕ). take at l ++ (vs ++ t)) (drop-drop k at l ∙ ap (λ (n : ℕ). drop (at + n) l) (sym size))
+put_spliced l at k {us} {vs} is size =
+    ap (put_mid at k l) is
+    ∙ ap (λ (t : List ℕ). take at l ++ (vs ++ t)) (drop-drop k at l ∙ ap (λ (n : ℕ). drop (at + n) l) (sym size))
     ∙ sym (append_assoc (take at l) vs (drop (at + length vs) l))
 
 -- all of it

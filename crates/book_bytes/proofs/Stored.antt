@@ -5,6 +5,8 @@ use Rattle.book_bytes.specs.declared.record.Record as Code
 use Rattle.book_bytes.specs.Stored.{stored_at, fields_in}
 use Rattle.book_bytes.proofs.Parts.{Part, number_in, part_taken, words_in}
 use Rattle.book_laws.specs.Bytes.{words_at}
+use Rattle.book_laws.specs.Format.{fields_of}
+use Rattle.rating.specs.Rate.{rate_of}
 use Rattle.book_laws.specs.Layout.{rbk1, record_fields, record_length}
 use Rattle.book_laws.specs.Record.{agrees, answer_at, case_at, rating_at}
 use Rattle.book_laws.proofs.Laws.Record.{fields_are}
@@ -31,3 +33,10 @@ pub fields_read :
     (b : List ℕ) (at : ℕ) {r : Code.Record} → r.case ≡ case_at rbk1 b at → r.answer ≡ answer_at rbk1 b at →
     r.rating ≡ rating_at rbk1 b at → fields_in r ≡ words_at b at (record_fields rbk1)
 fields_read b at {r} of_case of_answer of_rating = rw (of_case, of_answer, of_rating) (sym (fields_are rbk1 b at))
+
+-- the fields of the record that a case gets
+pub fields_rated :
+    (x : List ℕ) {r : Code.Record} → r.case ≡ x → r.answer ≡ (rate_of x).number → r.rating ≡ (rate_of x).rating →
+    fields_in r ≡ fields_of rbk1 x
+unfolding fields_of
+fields_rated x {r} of_case of_answer of_rating = rw (of_case, of_answer, of_rating) refl

@@ -3,6 +3,8 @@ ghost use Rattle.std.specs.Prelude.{◌≡◌, ◌+◌, ◌≤◌, length};
 ghost use Rattle.book_laws.specs.Bytes.{word_at, word_bytes};
 ghost use Rattle.splice.specs.Splice.{splice};
 
+use super::part::put;
+
 pub(crate) fn word_at(bytes: &[u8], at: usize) -> u32
     requires { at + 4 ≤ length bytes.now }
     ensures { result ≡ word_at bytes.now at }
@@ -14,5 +16,5 @@ pub(crate) fn put_word(bytes: &mut [u8], at: usize, word: u32)
     requires { at + 4 ≤ length bytes.old }
     ensures { bytes.new ≡ splice bytes.old at (word_bytes word) }
 {
-    bytes[at..at + 4].copy_from_slice(&word.to_be_bytes());
+    put(bytes, at, &word.to_be_bytes());
 }

@@ -4,6 +4,7 @@
 
 mod field;
 pub mod layout;
+pub mod part;
 pub mod record;
 pub mod refusal;
 pub mod trailer;

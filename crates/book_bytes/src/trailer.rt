@@ -10,6 +10,7 @@ use super::field::{put_word, word_at};
 use super::layout::{
     COUNT_AT, DISTANCE_AT, LENGTH_AT, MARK, MOST_RECORDS, RECORD_LENGTH, TRAILER_LENGTH,
 };
+use super::part::put;
 use super::refusal::Refusal;
 
 // What a trailer says: how many records there are, and where the first one stands.
@@ -59,7 +60,7 @@ pub fn trailer_of(count: u32) -> [u8; TRAILER_LENGTH]
     ensures { result ≡ trailer_bytes rbk1 count }
 {
     let mut trailer = [0; TRAILER_LENGTH];
-    trailer[..COUNT_AT].copy_from_slice(&MARK);
+    put(&mut trailer, 0, &MARK);
     put_word(&mut trailer, COUNT_AT, count);
     put_word(&mut trailer, DISTANCE_AT, RECORD_LENGTH as u32 * count);
     put_word(&mut trailer, LENGTH_AT, RECORD_LENGTH as u32);

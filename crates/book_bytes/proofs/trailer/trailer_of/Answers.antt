@@ -1,5 +1,5 @@
 -- `book_bytes::trailer::trailer_of` meets its contract: the mark and three words, one after another. Assumes nothing.
-use Rattle.std.proofs.Common.{List, ap, arith, length, refl, replicate, ℕ, ◌*◌, ◌++◌, ◌+◌, ◌∙◌, ◌≡◌, ◌≤◌}
+use Rattle.std.proofs.Common.{List, arith, length, refl, replicate, ℕ, ◌*◌, ◌+◌, ◌∙◌, ◌≡◌, ◌≤◌}
 use Rattle.splice.specs.Put.{Put}
 use Rattle.splice.specs.Splice.{splice}
 use Rattle.splice.proofs.Laws.Put.{put_then}
@@ -31,7 +31,5 @@ parts l count {a} {b} {d} {e} size put_a put_b put_d put_e =
     all.list_is ∙ splice_whole l _ (omega (arith, size, all.place_is))
 
 pub returns : goal.returns
-unfolding splice
 returns c =
-    let marked = ap (λ (t : List ℕ). t ++ replicate 12 0) c.copy_from_slice.ensures.after in
-    parts (replicate 16 0) c.args.count refl marked c.put_word.ensures c.put_word-2.ensures c.put_word-3.ensures
+    parts (replicate 16 0) c.args.count refl c.put.ensures c.put_word.ensures c.put_word-2.ensures c.put_word-3.ensures

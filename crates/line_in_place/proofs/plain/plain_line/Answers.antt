@@ -1,7 +1,7 @@
 -- `line_in_place::plain::plain_line` meets its contract. The invariant: the numbers read so far are a row, and each took twelve bytes at
 -- most.
 -- Assumes nothing.
-use Rattle.std.proofs.Common.{Bool, List, [], add-one, ap, arith, cond, eqb, false, get_or, le_refl, length, length-set, lit≤, refl}
+use Rattle.std.proofs.Common.{rules, Bool, List, [], add-one, ap, arith, cond, eqb, false, get_or, le_refl, length, length-set, lit≤, refl}
 use Rattle.std.proofs.Common.{set, subst, suc, sym, take, take-suc-set, take_all, true, ℕ, ◌++◌, ◌+◌, ◌<◌, ◌∙◌, ◌∷◌, ◌≡◌, ◌≤◌}
 use Rattle.line_in_place.specs.NumberAt.{NumberAt}
 use Rattle.line_in_place.specs.Plain.{PlainLine, longest_plain}
@@ -68,7 +68,7 @@ number_at-requires c = let on = c.loop-i.invariant in
     omega (arith, on.space, on.near)
 
 pub loop-i-preserved : goal.loop-i-preserved
-loop-i-preserved c = next c.loop-i.invariant c.in_ok-number.ensures c.loop-i-test.true (sym c.if-not-is_blank.ensures)
+loop-i-preserved c = next c.loop-i.invariant c.in_ok-number.ensures c.loop-i-test.true (sym c.is_blank.ensures ∙ search rules)
 
 pub number_at-requires-2 : goal.number_at-requires-2
 unfolding longest_plain
@@ -81,5 +81,5 @@ bounds-s-to c = end_inside c.loop-i.invariant c.in_ok-last.ensures _ c.past_retu
 pub returns : goal.returns
 unfolding line_of read_line
 returns c =
-    let line = done c.loop-i.invariant c.in_ok-last.ensures _ c.past_return-to.ensures c.loop-i-test.false (lit≤ tt) c.if-s-to-ne10.false in
+    let line = done c.loop-i.invariant c.in_ok-last.ensures _ c.past_return-to.ensures c.loop-i-test.false (lit≤ tt) (omega arith) in
     stands_whole _ _ _ line.end _ line.inside (sym line.says)

@@ -29,11 +29,17 @@ impl Record {
         ensures answer { result.answer ≡ (rate_of case).number }
         ensures rating { result.rating ≡ (rate_of case).rating }
     {
-        let rated = rate(case);
-        Record {
-            case,
-            answer: rated.answer,
-            rating: rated.rating,
+        match rate(case) {
+            Ok(rated) => Record {
+                case,
+                answer: 0,
+                rating: rated.rating,
+            },
+            Err(refusal) => Record {
+                case,
+                answer: u32::from(refusal),
+                rating: 0,
+            },
         }
     }
 

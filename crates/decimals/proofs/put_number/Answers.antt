@@ -1,5 +1,5 @@
 -- `decimals::put_number` meets its contract: the blank and the digits are what a number on a line is. Assumes nothing.
-use Rattle.std.proofs.Common.{[], ap, append-nil, append_assoc, lit<, sym, List, ◌++◌, ◌∙◌, ◌∷◌, ◌≡◌, ℕ}
+use Rattle.std.proofs.Common.{[], ap, append-nil, append_assoc, arith, length, length-append, lit<, sym, List, ◌++◌, ◌∙◌, ◌∷◌, ◌≡◌, ℕ}
 use Rattle.decimals.specs.Decimal.{decimal, spaced}
 use Rattle.decimals.proofs.put_number.Goals as goal
 
@@ -11,7 +11,12 @@ pub returns : goal.returns
 returns g c =
     let text = c.args.out.now.bytes in
     let digits = decimal c.args.x in
-    c.put_decimal.ensures
-    ∙ ap (λ (t : List ℕ). t ++ digits) (c.push.ensures.ascii (lit< tt))
-    ∙ append_assoc text (32 ∷ []) digits
-    ∙ ap (λ (t : List ℕ). text ++ t) (one c.args.x)
+    let blank : c.push.new.self.bytes ≡ text ++ 32 ∷ [] = c.push.ensures.ascii (lit< tt) in
+    record {
+      text =
+          c.put_decimal.ensures.text
+          ∙ ap (λ (t : List ℕ). t ++ digits) blank
+          ∙ append_assoc text (32 ∷ []) digits
+          ∙ ap (λ (t : List ℕ). text ++ t) (one c.args.x);
+      within = omega (arith, c.put_decimal.ensures.within, ap length blank, length-append text (32 ∷ []));
+    }

@@ -1,7 +1,6 @@
 -- `rate_text::print_said` meets its contract: at each `return` the kind tells what the line says.
 -- Assumes nothing.
-use Rattle.std.proofs.Common.{[], ap, arith, eq-eqb, ne_eqb, sym, ℕ, ◌∙◌, ◌≡◌}
-use Rattle.splice.proofs.Laws.Put.{put_as, put_within_as, put_nothing}
+use Rattle.std.proofs.Common.{[], ap, append-nil, eq-eqb, ne_eqb, sym, List, ◌++◌, ℕ, ◌∙◌, ◌≡◌}
 use Rattle.rate_text.specs.Answers.{text_of, unreadable_text, printed_for}
 use Rattle.rating.specs.Rate.{Answer, rate_of}
 use Rattle.text.specs.declared.line.Read.{Read}
@@ -21,16 +20,16 @@ module _ (k : ℕ) (r : Read) where
   unfolding said_of printed_for
   complaint h g = sym (simp (ne_eqb _ 0 h, ne_eqb _ 1 g))
 
-pub returns-then-said-eq-CASE : goal.returns-then-said-eq-CASE
-returns-then-said-eq-CASE c =
-    let text = the_answer _ _ _ c.rate.ensures c.if-said-eq-CASE.true in
-    put_within_as _ _ text c.put_answer.ensures
+pub returns-then-said-eq-PASSED_OVER-clause-text : goal.returns-then-said-eq-PASSED_OVER-clause-text
+returns-then-said-eq-PASSED_OVER-clause-text g c =
+    sym (append-nil _) ∙ ap (λ (t : List ℕ). c.args.out.now.bytes ++ t) (nothing _ _ c.if-said-eq-PASSED_OVER.true)
 
-pub returns : goal.returns
-returns c =
-    let text = complaint _ _ c.if-said-eq-PASSED_OVER.false c.if-said-eq-CASE.false in
-    put_within_as _ _ text c.put_unreadable.ensures
+pub returns-then-said-eq-CASE-clause-text : goal.returns-then-said-eq-CASE-clause-text
+returns-then-said-eq-CASE-clause-text g c =
+    c.put_answer.ensures.text
+    ∙ ap (λ (t : List ℕ). c.args.out.now.bytes ++ t) (the_answer _ _ _ c.rate.ensures c.if-said-eq-CASE.true)
 
-pub returns-then-said-eq-PASSED_OVER : goal.returns-then-said-eq-PASSED_OVER
-returns-then-said-eq-PASSED_OVER c =
-    record { put = put_as _ _ (nothing _ _ c.if-said-eq-PASSED_OVER.true) (put_nothing _ _); within = omega arith }
+pub returns-clause-text : goal.returns-clause-text
+returns-clause-text g c =
+    c.put_unreadable.ensures.text
+    ∙ ap (λ (t : List ℕ). c.args.out.now.bytes ++ t) (complaint _ _ c.if-said-eq-PASSED_OVER.false c.if-said-eq-CASE.false)

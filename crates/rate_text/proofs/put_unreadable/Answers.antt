@@ -1,8 +1,7 @@
--- `rate_text::put_unreadable` meets its contract: what it says of a line has room. Assumes nothing.
-use Rattle.std.proofs.Common.{arith}
+-- `rate_text::put_unreadable` meets its contract: this is what is said of the line. Assumes nothing.
 use Rattle.rate_text.specs.Answers.{unreadable_text}
 use Rattle.rate_text.proofs.put_unreadable.Goals as goal
 
-pub returns : goal.returns
+pub returns-clause-text : goal.returns-clause-text
 unfolding unreadable_text
-returns c = record { put = c.put_about.ensures.put; within = omega arith }
+returns-clause-text g c = c.put_about.ensures.text

@@ -8,12 +8,12 @@ ghost use Rattle.arrayvec.specs.ArrayString.{array_string_len};
 ghost use Rattle.rate_text.specs.Answers.{answer_room, sheet_room, text_of, about_line, unreadable_text, printed_for, printed};
 ghost use Rattle.rating.specs.Rate.{answer_of};
 ghost use Rattle.decimals.specs.Decimal.{spaced};
-ghost use Rattle.text.specs.Answer.{said_of};
 
 use arrayvec::ArrayString;
 use decimals::{put_decimal, put_number};
-use rating::rate::{Answer, SHEET, rate};
-use text::line::{CASE, PASSED_OVER, Read, read_line};
+use rating::rate::{Rated, SHEET, rate};
+use rating::refusal::Refusal;
+use text::line::{Said, read_line};
 
 // Room for what is printed for any line.
 pub const ROOM: usize = 512;
@@ -47,17 +47,21 @@ fn put_numbers<const N: usize>(
     out.push('\n');
 }
 
-// Appends the line for a case.
-fn put_answer<const N: usize>(out: &mut ArrayString<N>, a: Answer)
+// Appends the line for a case, by what it is rated.
+#[tactic(auto, unfolding(rating::specs::Rate::refused))]
+fn put_answer<const N: usize>(out: &mut ArrayString<N>, rated: Result<Rated, Refusal>)
     requires { array_string_len out.old + answer_room ≤ N }
-    ensures text { out.new.bytes ≡ out.old.bytes ++ text_of (answer_of a) }
+    ensures text { out.new.bytes ≡ out.old.bytes ++ text_of (answer_of rated) }
     ensures within { array_string_len out.new ≤ array_string_len out.old + answer_room }
 {
-    let sheet = a.sheet;
-    put_numbers(out, a.answer, a.rating, sheet);
+    match rated {
+        Ok(rated) => put_numbers(out, 0, rated.rating, rated.sheet),
+        Err(refusal) => put_numbers(out, u32::from(refusal), 0, [0; SHEET]),
+    }
 }
 
 // Appends what is said of a line: its number, and a text.
+#[tactic(auto, unfolding(crate::specs::Answers::about_line))]
 pub fn put_about<const N: usize>(out: &mut ArrayString<N>, number: u64, text: &str)
     requires { array_string_len out.old + 25 + length text.now ≤ N }
     ensures text { out.new.bytes ≡ out.old.bytes ++ about_line number text.now }
@@ -69,6 +73,7 @@ pub fn put_about<const N: usize>(out: &mut ArrayString<N>, number: u64, text: &s
 }
 
 // Appends the line for an unreadable line.
+#[tactic(auto, unfolding(crate::specs::Answers::unreadable_text))]
 fn put_unreadable<const N: usize>(out: &mut ArrayString<N>, number: u64)
     requires { array_string_len out.old + answer_room ≤ N }
     ensures text { out.new.bytes ≡ out.old.bytes ++ unreadable_text number }
@@ -78,22 +83,21 @@ fn put_unreadable<const N: usize>(out: &mut ArrayString<N>, number: u64)
 }
 
 // Appends what is printed for a line, given its number and what it says.
-pub fn print_said<const N: usize>(out: &mut ArrayString<N>, number: u64, said: Read)
+#[tactic(auto, unfolding(crate::specs::Answers::printed_for))]
+pub fn print_said<const N: usize>(out: &mut ArrayString<N>, number: u64, said: Said)
     requires { array_string_len out.old + answer_room ≤ N }
-    ensures text { out.new.bytes ≡ out.old.bytes ++ printed_for number (said_of said) }
+    ensures text { out.new.bytes ≡ out.old.bytes ++ printed_for number said }
     ensures within { array_string_len out.new ≤ array_string_len out.old + answer_room }
 {
-    if said.kind == PASSED_OVER {
-        return;
+    match said {
+        Said::PassedOver => {}
+        Said::Case(x) => put_answer(out, rate(x)),
+        Said::Unreadable => put_unreadable(out, number),
     }
-    if said.kind == CASE {
-        let fields = said.fields;
-        return put_answer(out, rate(fields));
-    }
-    put_unreadable(out, number);
 }
 
 // Appends what is printed for a line, given its number and its bytes without the line feed.
+#[tactic(auto, unfolding(crate::specs::Answers::printed))]
 pub fn print_line<const N: usize>(out: &mut ArrayString<N>, number: u64, line: &[u8])
     requires { array_string_len out.old + answer_room ≤ N }
     ensures text { out.new.bytes ≡ out.old.bytes ++ printed number line.now }

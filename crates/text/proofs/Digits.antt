@@ -1,7 +1,7 @@
 -- What `read_digits` gives, said of the digits that are left: how the loop of `text::number::read_digits` goes on by one digit, and where
--- it stops.
+-- it stops; and the two's complement that `wrapping_neg` gives.
 -- Assumes nothing.
-use Rattle.std.proofs.Common.{Bool, true, false, cond, ◌&&◌, List, [], ◌∷◌, ◌≡◌, refl, ℕ, ◌+◌, ◌-◌, ◌*◌, ◌≤◌, ◌<◌, le_refl, sym}
+use Rattle.std.proofs.Common.{◌%◌, ◌^◌, Bool, true, false, cond, ◌&&◌, List, [], ◌∷◌, ◌≡◌, refl, ℕ, ◌+◌, ◌-◌, ◌*◌, ◌≤◌, ◌<◌, le_refl, sym}
 use Rattle.std.specs.Prelude.{Option, Some, None}
 use Rattle.std.proofs.Common.{le_trans, add-one, arith, le-leb, leb, length, get_or, drop, drop_of_length-le, drop-cons}
 use Rattle.std.proofs.Math.Bool.{and-false}
@@ -44,3 +44,7 @@ onward_over limit x s h = simp (lt-leb _ _ (le_trans h (grows x s)), and-false)
 pub onward_end : (limit x : ℕ) (w : List ℕ) (i : ℕ) → length w ≤ i → x ≤ limit → onward limit x (drop i w) ≡ Some x
 unfolding onward every value_from
 onward_end limit x w i h k = rw (drop_of_length-le w h) (simp (le-leb _ _ k))
+
+-- the two's complement of a number
+pub opposite : (r x : ℕ) → (r + x) % 2 ^ 32 ≡ 0 → r < 2 ^ 32 → x < 2 ^ 32 → (4294967296 - x) % 4294967296 ≡ r
+opposite r x e h k = omega arith

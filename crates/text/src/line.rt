@@ -5,7 +5,7 @@ ghost use Rattle.text.specs.Line.{fields, read_line, says, text_length};
 ghost use Rattle.fields.specs.Fields.{width};
 ghost use Rattle.text.specs.Laws.Leading.{WordAt};
 
-use crate::number::{LARGEST, is_number, leading_digits, read_number};
+use crate::number::{LARGEST, number_in, read_number};
 use crate::words::{is_past_word, skip_blanks, skip_word};
 use fields::{Case, WIDTH};
 
@@ -34,13 +34,11 @@ fn read_word(s: &[u8], from: usize) -> Word
     ensures { WordAt s.now from result.to result.said }
 {
     if 10 <= s.len() - from {
-        let digits = leading_digits(s, from);
-        let to = digits.to;
-        if is_number(from, to, digits.value, LARGEST) {
-            if is_past_word(s, to) {
+        if let Some(number) = number_in(s, from, LARGEST) {
+            if is_past_word(s, number.to) {
                 return Word {
-                    to,
-                    said: Some(digits.value as u32),
+                    to: number.to,
+                    said: Some(number.value),
                 };
             }
         }

@@ -1,7 +1,8 @@
 // A word read as a number of 32 bits: digits, or a minus sign and digits, as a temperature below zero
 // has them.
-ghost use Rattle.std.specs.Prelude.{◌≡◌, ◌+◌, ◌≤◌, length};
+ghost use Rattle.std.specs.Prelude.{◌≡◌, ◌+◌, ◌≤◌, length, IfSome};
 ghost use Rattle.text.specs.Leading.{LeadingDigits, is_number};
+ghost use Rattle.text.specs.Laws.Leading.{NumberIn};
 ghost use Rattle.text.specs.Number.{read_digits, read_number};
 
 // The largest number without a sign, and the largest after a minus sign.
@@ -43,14 +44,14 @@ pub fn read_number(w: &[u8]) -> Option<u32>
 
 // Where digits end, and their value.
 #[derive(Clone, Copy)]
-pub struct Leading {
-    pub to: usize,
-    pub value: u64,
+struct Leading {
+    to: usize,
+    value: u64,
 }
 
 // The digits from `from` on, at most ten, as many as a number of 32 bits has: these fit 64 bits, so
 // that no limit is tried on the way, and the compiler writes the loop out.
-pub fn leading_digits(s: &[u8], from: usize) -> Leading
+fn leading_digits(s: &[u8], from: usize) -> Leading
     requires { from + 10 ≤ length s.now }
     ensures { LeadingDigits s.now from result.to result.value }
 {
@@ -72,8 +73,31 @@ pub fn leading_digits(s: &[u8], from: usize) -> Leading
 }
 
 // Whether digits from `from` to `to` are a number of at most `limit`.
-pub fn is_number(from: usize, to: usize, value: u64, limit: u32) -> bool
+fn is_number(from: usize, to: usize, value: u64, limit: u32) -> bool
     ensures { result ≡ is_number from to value limit }
 {
     (from < to) & (value <= u64::from(limit))
+}
+
+// A number that stands in a line, and where its digits end.
+#[derive(Clone, Copy)]
+pub struct Number {
+    pub to: usize,
+    pub value: u32,
+}
+
+// The number of at most `limit` that the first ten bytes from `from` on begin with, if it ends
+// among them.
+pub fn number_in(s: &[u8], from: usize, limit: u32) -> Option<Number>
+    requires { from + 10 ≤ length s.now }
+    ensures { IfSome result (λ n. NumberIn s.now from n.to n.value limit) }
+{
+    let Leading { to, value } = leading_digits(s, from);
+    if !is_number(from, to, value, limit) {
+        return None;
+    }
+    Some(Number {
+        to,
+        value: value as u32,
+    })
 }

@@ -1,6 +1,5 @@
 -- A number at a place of a chunk. Assumes nothing.
-use Rattle.std.specs.Prelude.{true, List, ◌≡◌, ℕ, ◌+◌, ◌≤◌, ◌<◌, length}
-use Rattle.text.specs.declared.number.Reading.TheVariants.{Number}
+use Rattle.std.specs.Prelude.{true, List, Some, ◌≡◌, ℕ, ◌+◌, ◌≤◌, ◌<◌, length}
 use Rattle.text.specs.Gather.{piece}
 use Rattle.text.specs.Number.{every, is_numeral, read_number}
 
@@ -10,4 +9,4 @@ pub record NumberAt (s : List ℕ) (at to x : ℕ) : Type 0 where
   pub near : to ≤ at + 11
   pub inside : to < length s
   pub numeral : every is_numeral (piece at to s) ≡ true
-  pub says : read_number (piece at to s) ≡ Number x
+  pub says : read_number (piece at to s) ≡ Some x

@@ -1,60 +1,29 @@
 // A number at a place of a chunk, in a line that is read where it stands. The chunk goes on for as
 // many bytes as the longest number has, so that no byte is asked whether it is there.
-ghost use Rattle.std.specs.Prelude.{false, true, ◌≡◌, ◌+◌, ◌≤◌, length};
+ghost use Rattle.std.specs.Prelude.{◌+◌, ◌≤◌, length, IfSome};
 ghost use Rattle.line_in_place.specs.NumberAt.{NumberAt};
 
-use text::number::{LARGEST, LARGEST_NEGATED, is_number, leading_digits};
-
-// A number, if one was found, and where its word ends.
-#[derive(Clone, Copy)]
-pub(crate) struct Number {
-    pub(crate) found: bool,
-    pub(crate) to: usize,
-    pub(crate) value: u32,
-}
-
-fn no_number() -> Number
-    ensures { result.found ≡ false }
-{
-    Number {
-        found: false,
-        to: 0,
-        value: 0,
-    }
-}
+use text::number::{LARGEST, LARGEST_NEGATED, Number, number_in};
 
 // The number at `at`, if it has a minus sign.
-fn negative_at(s: &[u8], at: usize) -> Number
+fn negative_at(s: &[u8], at: usize) -> Option<Number>
     requires { at + 12 ≤ length s.now }
-    ensures { result.found ≡ true → NumberAt s.now at result.to result.value }
+    ensures { IfSome result (λ n. NumberAt s.now at n.to n.value) }
 {
-    if s[at] == b'-' {
-        let digits = leading_digits(s, at + 1);
-        let to = digits.to;
-        if is_number(at + 1, to, digits.value, LARGEST_NEGATED) {
-            return Number {
-                found: true,
-                to,
-                value: ((4294967296 - digits.value) % 4294967296) as u32,
-            };
-        }
+    if s[at] != b'-' {
+        return None;
     }
-    no_number()
+    let Number { to, value } = number_in(s, at + 1, LARGEST_NEGATED)?;
+    Some(Number {
+        to,
+        value: value.wrapping_neg(),
+    })
 }
 
 // The number at `at`, of at most ten digits.
-pub(crate) fn number_at(s: &[u8], at: usize) -> Number
+pub(crate) fn number_at(s: &[u8], at: usize) -> Option<Number>
     requires { at + 12 ≤ length s.now }
-    ensures { result.found ≡ true → NumberAt s.now at result.to result.value }
+    ensures { IfSome result (λ n. NumberAt s.now at n.to n.value) }
 {
-    let digits = leading_digits(s, at);
-    let to = digits.to;
-    if is_number(at, to, digits.value, LARGEST) {
-        return Number {
-            found: true,
-            to,
-            value: digits.value as u32,
-        };
-    }
-    negative_at(s, at)
+    number_in(s, at, LARGEST).or_else(|| negative_at(s, at))
 }

@@ -1,30 +1,15 @@
 // The usual line: a case with one blank or tab between two numbers, read in one pass over its
 // bytes.
-ghost use Rattle.std.specs.Prelude.{cond, false, true, ◌≡◌, ◌+◌, ◌<◌, ◌≤◌, eqb, get_or, length};
-ghost use Rattle.line_in_place.specs.Plain.{PlainLine, longest_plain};
+ghost use Rattle.std.specs.Prelude.{cond, true, ◌≡◌, ◌+◌, ◌<◌, ◌≤◌, eqb, get_or, length, IfSome};
+ghost use Rattle.line_in_place.specs.Plain.{longest_plain};
+ghost use Rattle.line_in_place.specs.Standing.{standing};
 ghost use Rattle.fields.specs.Fields.{width};
 
+use crate::Line;
 use crate::number::number_at;
-use fields::{Case, WIDTH};
+use fields::WIDTH;
+use text::line::Said;
 use text::words::is_blank;
-
-// The numbers of a case, if they were found, and where the line feed after them stands.
-#[derive(Clone, Copy)]
-pub(crate) struct Plain {
-    pub(crate) found: bool,
-    pub(crate) to: usize,
-    pub(crate) fields: Case,
-}
-
-fn not_plain() -> Plain
-    ensures { result.found ≡ false }
-{
-    Plain {
-        found: false,
-        to: 0,
-        fields: [0u32; WIDTH],
-    }
-}
 
 // The bytes of the longest plain line: for each number eleven and one after it, and a carriage
 // return.
@@ -34,10 +19,7 @@ const LONGEST_PLAIN: usize = WIDTH * 12 + 1;
 fn has_room(s: &[u8], from: usize) -> bool
     ensures { result ≡ true → from + longest_plain width ≤ length s.now }
 {
-    if from < s.len() {
-        return LONGEST_PLAIN <= s.len() - from;
-    }
-    false
+    LONGEST_PLAIN <= s.len().saturating_sub(from)
 }
 
 // The place past a carriage return at `at`, if one stands there.
@@ -49,40 +31,30 @@ fn past_return(s: &[u8], at: usize) -> usize
 }
 
 // The line from `from` on, if it is a case with one blank between two numbers and none at its ends.
-pub(crate) fn plain_line(s: &[u8], from: usize) -> Plain
-    ensures { result.found ≡ true → PlainLine width s.now from result.to result.fields }
+pub(crate) fn plain_line(s: &[u8], from: usize) -> Option<Line>
+    ensures { IfSome result (λ line. Some line ≡ standing s.now from) }
 {
     if !has_room(s, from) {
-        return not_plain();
+        return None;
     }
     let mut fields = [0u32; WIDTH];
     let mut at = from;
-    let mut i = 0;
-    while i < WIDTH - 1 {
-        let number = number_at(s, at);
-        if !number.found {
-            return not_plain();
-        }
-        let to = number.to;
-        if !is_blank(s[to]) {
-            return not_plain();
+    for i in 0..WIDTH - 1 {
+        let number = number_at(s, at)?;
+        if !is_blank(s[number.to]) {
+            return None;
         }
         fields[i] = number.value;
-        at = to + 1;
-        i += 1;
+        at = number.to + 1;
     }
-    let last = number_at(s, at);
-    if !last.found {
-        return not_plain();
-    }
-    let end = past_return(s, last.to);
-    if s[end] != b'\n' {
-        return not_plain();
+    let last = number_at(s, at)?;
+    let to = past_return(s, last.to);
+    if s[to] != b'\n' {
+        return None;
     }
     fields[WIDTH - 1] = last.value;
-    Plain {
-        found: true,
-        to: end,
-        fields,
-    }
+    Some(Line {
+        to,
+        said: Said::Case(fields),
+    })
 }

@@ -1,6 +1,5 @@
 -- What follows from the definitions of words, numbers, lines and gathering. Assumes nothing.
 pub mod After
-pub mod Answer
 pub mod Case
 pub mod Examples
 pub mod Gather

@@ -1,5 +1,4 @@
 -- What a line of text says, and how lines are gathered from chunks; laws of both. Assumes nothing.
-pub mod Answer
 pub mod Bytes
 pub mod Gather
 pub mod Leading

@@ -2,35 +2,31 @@
 -- more of them. Assumes nothing.
 use Rattle.std.specs.Prelude.{cond, ◌||◌, List, [], ◌∷◌, ℕ, zero, suc, ◌-◌, eqb, ltb, length, get_or, take}
 use Rattle.fields.specs.Fields.{width}
-use Rattle.text.specs.declared.number.Reading.{Reading}
-use Rattle.text.specs.declared.number.Reading.TheVariants.{Number, Nothing}
+use Rattle.std.specs.Prelude.{Option, Some, None}
+use Rattle.text.specs.declared.line.Said.{Said}
+use Rattle.text.specs.declared.line.Said.TheVariants.{PassedOver, Case, Unreadable}
 use Rattle.text.specs.Bytes.{carriage_return, number_sign}
 use Rattle.text.specs.Number.{read_number}
 use Rattle.text.specs.Words.{is_empty, drop_blanks, word, drop_word}
 
-pub data Said : Type 0 where
-  passed_over : Said
-  a_case : List ℕ → Said
-  unreadable : Said
-
 -- a number in front of the numbers that the rest says
 unfoldable pub before : ℕ → Said → Said
-before x passed_over = passed_over
-before x (a_case xs) = a_case (x ∷ xs)
-before x unreadable = unreadable
+before x PassedOver = PassedOver
+before x (Case xs) = Case (x ∷ xs)
+before x Unreadable = Unreadable
 
-unfoldable pub field : Reading → Said → Said
-field (Number x) rest = before x rest
-field Nothing rest = unreadable
+unfoldable pub field : Option ℕ → Said → Said
+field (Some x) rest = before x rest
+field None rest = Unreadable
 
 -- n words that are numbers, with blanks before, between and after them, and nothing else
 unfoldable pub fields : ℕ → List ℕ → Said
-fields zero s = cond (is_empty (drop_blanks s)) (a_case []) unreadable
+fields zero s = cond (is_empty (drop_blanks s)) (Case []) Unreadable
 fields (suc n) s = field (read_number (word (drop_blanks s))) (fields n (drop_word (drop_blanks s)))
 
 -- a line of blanks alone, or that begins with #, is passed over
 unfoldable pub says : ℕ → List ℕ → Said
-says n s = cond (is_empty (drop_blanks s) || eqb (get_or s 0 0) number_sign) passed_over (fields n s)
+says n s = cond (is_empty (drop_blanks s) || eqb (get_or s 0 0) number_sign) PassedOver (fields n s)
 
 -- a line's length without one carriage return at the very end
 unfoldable pub text_length : List ℕ → ℕ
@@ -42,7 +38,7 @@ longest_line = 1023
 
 -- a line of n numbers
 unfoldable pub read_line_of : ℕ → List ℕ → Said
-read_line_of n l = cond (ltb longest_line (length l)) unreadable (says n (take (text_length l) l))
+read_line_of n l = cond (ltb longest_line (length l)) Unreadable (says n (take (text_length l) l))
 
 unfoldable pub read_line : List ℕ → Said
 read_line l = read_line_of width l

@@ -1,7 +1,6 @@
 -- The number that a word says: digits, or a minus sign and digits. Assumes nothing.
 use Rattle.std.specs.Prelude.{Bool, true, cond, not, ◌&&◌, ◌||◌, List, [], ◌∷◌, ℕ, ◌+◌, ◌-◌, ◌*◌, ◌%◌, ◌^◌, ◌<◌, leb, eqb, drop, get_or}
-use Rattle.text.specs.declared.number.Reading.{Reading}
-use Rattle.text.specs.declared.number.Reading.TheVariants.{Number, Nothing}
+use Rattle.std.specs.Prelude.{Option, Some, None}
 use Rattle.text.specs.Bytes.{minus_sign, digit_zero, digit_nine}
 use Rattle.text.specs.Words.{is_empty}
 
@@ -26,16 +25,16 @@ unfoldable pub value : List ℕ → ℕ
 value s = value_from 0 s
 
 -- one digit or more, with a value of at most the limit
-unfoldable pub read_digits : ℕ → List ℕ → Reading
-read_digits limit w = cond (not (is_empty w) && (every is_digit w && leb (value w) limit)) (Number (value w)) Nothing
+unfoldable pub read_digits : ℕ → List ℕ → Option ℕ
+read_digits limit w = cond (not (is_empty w) && (every is_digit w && leb (value w) limit)) (Some (value w)) None
 
 -- the two's complement at 32 bits
-unfoldable pub negated : Reading → Reading
-negated (Number x) = Number ((4294967296 - x) % 4294967296)
-negated Nothing = Nothing
+unfoldable pub negated : Option ℕ → Option ℕ
+negated (Some x) = Some ((4294967296 - x) % 4294967296)
+negated None = None
 
 -- digits to 4294967295, or a minus sign and digits to 2147483648
-unfoldable pub read_number : List ℕ → Reading
+unfoldable pub read_number : List ℕ → Option ℕ
 read_number w = cond (eqb (get_or w 0 0) minus_sign) (negated (read_digits 2147483648 (drop 1 w))) (read_digits 4294967295 w)
 
 -- every number is below 2^32

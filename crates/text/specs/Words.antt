@@ -1,5 +1,5 @@
 -- The words of a line: a word is a run of bytes that are neither blank nor tab. Assumes nothing.
-use Rattle.std.specs.Prelude.{Bool, true, false, cond, not, ◌||◌, List, [], ◌∷◌, ℕ, zero, suc, ◌+◌, eqb, take, drop}
+use Rattle.std.specs.Prelude.{Bool, true, false, cond, not, ◌||◌, List, [], ◌∷◌, ◌≡◌, ℕ, zero, suc, ◌+◌, eqb, take, drop}
 use Rattle.text.specs.Bytes.{tab, space}
 
 -- a blank or a tab
@@ -10,9 +10,9 @@ is_blank b = eqb b space || eqb b tab
 unfoldable pub is_ink : ℕ → Bool
 is_ink b = not (is_blank b)
 
--- blanks and tabs, or all other bytes
-abbrev pub is_kind : Bool → ℕ → Bool
-is_kind blanks b = cond blanks (is_blank b) (is_ink b)
+-- calls that return what the test p says of each byte
+abbrev pub Decides : (ℕ → Bool → Type 0) → (ℕ → Bool) → Type 0
+Decides post p = (b : ℕ) (r : Bool) → post b r → r ≡ p b
 
 -- how many bytes at the start of a list pass a test
 unfoldable pub run : (ℕ → Bool) → List ℕ → ℕ

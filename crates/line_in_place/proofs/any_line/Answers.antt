@@ -7,8 +7,8 @@ use Rattle.line_in_place.proofs.any_line.Goals as goal
 
 pub returns-then-to-chunk : goal.returns-then-to-chunk
 unfolding line_of line_end piece
-returns-then-to-chunk c = stands_whole _ _ _ _ c.line_feed-to.ensures c.if-to-chunk.true c.read_line.ensures
+returns-then-to-chunk c = stands_whole _ _ _ c.line_feed-to.ensures _ c.if-to-chunk.true c.read_line.ensures
 
 pub returns : goal.returns
-unfolding line_of line_end
-returns c = stands_in_part _ _ _ _ c.line_feed-to.ensures c.if-to-chunk.false c.no_case.ensures
+unfolding line_end
+returns c = stands_in_part _ _ _ c.line_feed-to.ensures c.if-to-chunk.false

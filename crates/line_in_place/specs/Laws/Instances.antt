@@ -1,15 +1,13 @@
 -- The laws of a row and of a line in a chunk, on a chunk of two numbers, a line's end and bytes of the next line: each premise is met.
 -- Assumes nothing.
-use Rattle.std.specs.Prelude.{true, false, List, [], ◌∷◌, ◌≡◌, refl, ℕ, ◌<◌}
-use Rattle.std.proofs.Common.{sym, ap, lit<, lit≤}
-use Rattle.line_in_place.specs.declared.Line.{Line}
+use Rattle.std.specs.Prelude.{Some, None, List, [], ◌∷◌, ◌≡◌, refl, ℕ, ◌<◌}
+use Rattle.std.proofs.Common.{lit<, lit≤}
 use Rattle.line_in_place.specs.NumberAt.{NumberAt}
 use Rattle.line_in_place.specs.Laws.NumberAt.{without_sign, with_sign}
 use Rattle.line_in_place.specs.Plain.{PlainLine}
 use Rattle.line_in_place.specs.Laws.Row.{Row, row_none, row_more, row_ends}
 use Rattle.line_in_place.specs.Standing.{line_end, line_of, standing}
 use Rattle.line_in_place.specs.Laws.Standing.{stands_whole, stands_in_part, whole_within}
-use Rattle.text.specs.Answer.{answer, no_case}
 use Rattle.text.specs.Gather.{is_in_line, piece}
 use Rattle.text.specs.Line.{read_line}
 use Rattle.text.specs.Number.{is_digit, every, value_from, value}
@@ -48,13 +46,12 @@ row = row_more (row_none chunk 0) seven refl
 line : PlainLine 2 chunk 0 5 (7 ∷ 4294967295 ∷ [])
 line = row_ends row minus_one (lit< tt) 5 (lit< tt) refl refl
 
-whole : line_of true 5 (answer (read_line (piece 0 5 chunk))) ≡ standing chunk 0
-whole = stands_whole chunk 0 5 _ line.end (lit< tt) refl
+whole : Some (line_of 5 (read_line (piece 0 5 chunk))) ≡ standing chunk 0
+whole = stands_whole chunk 0 5 line.end _ (lit< tt) refl
 
-inside : (standing chunk 0).to < 14
-unfolding line_of
-inside = whole_within chunk 0 (ap (λ (l : Line). l.whole) (sym whole))
+inside : (line_of 5 (read_line (piece 0 5 chunk))).to < 14
+inside = whole_within chunk 0 _ whole
 
-in_part : line_of false 14 (no_case 0) ≡ standing chunk 6
+in_part : None ≡ standing chunk 6
 unfolding line_end run is_in_line
-in_part = stands_in_part chunk 6 14 (no_case 0) refl (lit≤ tt) refl
+in_part = stands_in_part chunk 6 14 refl (lit≤ tt)

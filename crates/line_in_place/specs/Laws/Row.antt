@@ -1,7 +1,7 @@
 -- A row of numbers in a chunk, with one blank after each: how it goes on by one number, that with a last number and the line's end it is
 -- a line that says a case, and which case. Assumes nothing.
 use Rattle.std.proofs.Common.{List, [], ◌∷◌, ◌++◌, append_assoc, append-nil, ℕ, suc, ◌+◌, ◌-◌, ◌≤◌, ◌<◌, arith}
-use Rattle.std.specs.Prelude.{Bool, true, false, cond, ◌≡◌, eqb}
+use Rattle.std.specs.Prelude.{Bool, true, false, cond, ◌≡◌, eqb, Option}
 use Rattle.std.proofs.Math.Path.{refl, sym, ap}
 use Rattle.std.proofs.Common.{◌∙◌, le_refl, zero-add, eqb-true, ne_eqb}
 use Rattle.std.proofs.Math.ListN.{length, get_or}
@@ -9,9 +9,9 @@ use Rattle.line_in_place.specs.NumberAt.{NumberAt}
 use Rattle.line_in_place.specs.Plain.{PlainLine}
 use Rattle.line_in_place.specs.Laws.Standing.{line_ends}
 use Rattle.text.specs.Laws.After.{after, after_one, after_none}
-use Rattle.text.specs.declared.number.Reading.{Reading}
+use Rattle.text.specs.declared.line.Said.TheVariants.{Case}
 use Rattle.text.specs.Gather.{is_in_line, piece}
-use Rattle.text.specs.Line.{a_case, field, fields, longest_line, read_line_of}
+use Rattle.text.specs.Line.{field, fields, longest_line, read_line_of}
 use Rattle.text.specs.Number.{is_digit, every, is_numeral}
 use Rattle.text.specs.Laws.Number.{every_append, every_weaker, differ}
 use Rattle.text.specs.Laws.Pieces.{piece_none, piece_more, piece_join, piece_length}
@@ -45,7 +45,7 @@ unfolding is_plain is_numeral is_digit is_blank is_in_line
 plain_in_line b h = simp (ne_eqb b 10 (differ is_plain b 10 h refl))
 
 is_line : {n : ℕ} {s : List ℕ} {from : ℕ} {xs : List ℕ} (to : ℕ) (line : List ℕ) → piece from to s ≡ line → every is_in_line line ≡ true
-    → from ≤ to → to < length s → get_or s to 0 ≡ 10 → read_line_of n line ≡ a_case xs → PlainLine n s from to xs
+    → from ≤ to → to < length s → get_or s to 0 ≡ 10 → read_line_of n line ≡ Case xs → PlainLine n s from to xs
 is_line {n} {s} {from} to line bytes none forward inside feed says =
     record {
       inside = inside;
@@ -83,7 +83,7 @@ module _ {s : List ℕ} {from at i : ℕ} {xs : List ℕ} (row : Row s from at i
       ap (λ (p : List ℕ). fields (i + suc k) (p ++ t)) joined
       ∙ ap (fields (i + suc k)) (append_assoc (piece from at s) word t)
       ∙ row.read (suc k) (word ++ t)
-      ∙ ap (after xs) (one_field word t some ink stop k ∙ ap (λ (r : Reading). field r (fields k t)) next.says)
+      ∙ ap (after xs) (one_field word t some ink stop k ∙ ap (λ (r : Option ℕ). field r (fields k t)) next.says)
       ∙ sym (after_one xs x (fields k t))
 
   one_byte_more : piece from (to + 1) s ≡ line ++ (get_or s to 0 ∷ [])
@@ -108,7 +108,7 @@ module _ {s : List ℕ} {from at i : ℕ} {xs : List ℕ} (row : Row s from at i
       }
 
   -- nothing after it: the row says its numbers
-  says_row : fields (suc i) line ≡ a_case (xs ++ (x ∷ []))
+  says_row : fields (suc i) line ≡ Case (xs ++ (x ∷ []))
   unfolding run fields drop_blanks is_empty
   says_row =
       let count : suc i ≡ i + 1 = omega arith in

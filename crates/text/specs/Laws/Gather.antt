@@ -1,6 +1,7 @@
 -- A line that is gathered piece by piece in a room of fixed size: what is kept is the start of the whole line, and as much of it as
 -- fills the room is enough to read it. Assumes nothing.
 use Rattle.std.proofs.Common.{List, [], ◌∷◌, ◌++◌, arith}
+use Rattle.text.specs.declared.line.Said.TheVariants.{Unreadable}
 use Rattle.std.specs.Prelude.{Bool, true, false, ◌≡◌, refl, ℕ, zero, suc, ◌+◌, ◌-◌, ◌≤◌, ◌<◌, ltb, drop}
 use Rattle.std.proofs.Math.Path.{sym, ap}
 use Rattle.std.proofs.Common.{◌∙◌, lt-ltb, ltb-true, ltb-false, length-append, take_all, length-take-le}
@@ -8,12 +9,12 @@ use Rattle.std.proofs.Math.Nat.{zero-sub, sub-zero, suc-sub-suc}
 use Rattle.std.proofs.Math.ListN.{length, take, length-take}
 use Rattle.std.proofs.Math.Seq.{take_at, take-nil}
 use Rattle.text.specs.Gather.{piece, line_room, kept, Holds}
-use Rattle.text.specs.Line.{unreadable, longest_line, read_line_of}
+use Rattle.text.specs.Line.{longest_line, read_line_of}
 use Rattle.splice.specs.Splice.{splice}
 
 -- ---- the start of a line that fills the room decides what the line says
 
-pub too_long : (n : ℕ) (l : List ℕ) → longest_line < length l → read_line_of n l ≡ unreadable
+pub too_long : (n : ℕ) (l : List ℕ) → longest_line < length l → read_line_of n l ≡ Unreadable
 unfolding read_line_of
 too_long n l h = simp (lt-ltb _ _ h)
 

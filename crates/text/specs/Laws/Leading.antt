@@ -1,12 +1,11 @@
 -- Digits that stand in a line from one place to another: how a loop that reads them goes on by one, and that they are a word, and what
 -- it says, where no word goes on after them; what the code hands on of a word. Assumes nothing.
 use Rattle.std.proofs.Common.{le-leb, ne_eqb, ltb-true, leb-true}
+use Rattle.std.specs.Prelude.{Option, Some}
 use Rattle.std.specs.Prelude.{Bool, true, List, [], ◌∷◌, ◌≡◌, refl, ℕ, ◌+◌, ◌-◌, ◌*◌, ◌^◌, ◌≤◌, ◌<◌, leb, ltb, length, get_or, drop}
 use Rattle.std.proofs.Common.{sym, ap, ◌∙◌, le_refl, lt_of_lt_of_le, pow-suc, add-one, arith, lit<}
 use Rattle.std.proofs.Math.Nat.{pow-le-pow_right}
 use Rattle.bools.proofs.Laws.Tests.{both}
-use Rattle.text.specs.declared.number.Reading.{Reading}
-use Rattle.text.specs.declared.number.Reading.TheVariants.{Number}
 use Rattle.text.specs.Gather.{piece}
 use Rattle.text.specs.Leading.{digits_end, DigitsIn, LeadingDigits, is_number}
 use Rattle.text.specs.Number.{is_digit, every, value_from, value, read_digits, read_number}
@@ -16,7 +15,7 @@ use Rattle.text.specs.Laws.Words.{digit_ink, run_past}
 use Rattle.text.specs.Words.{is_ink, run, run_end}
 
 -- the word at `from` ends at `to`, and says r
-pub record WordAt (s : List ℕ) (from to : ℕ) (r : Reading) : Type 0 where
+pub record WordAt (s : List ℕ) (from to : ℕ) (r : Option ℕ) : Type 0 where
   pub end_is : to ≡ run_end is_ink s from
   pub said_is : r ≡ read_number (piece from to s)
 
@@ -89,11 +88,11 @@ module _ {s : List ℕ} {from to x limit : ℕ} (number : NumberIn s from to x l
   unfolding word
   word_some = omega (arith, size s from to x number.digits, number.some)
 
-  pub digits_say : read_digits limit (piece from to s) ≡ Number x
+  pub digits_say : read_digits limit (piece from to s) ≡ Some x
   unfolding read_digits word
   digits_say = simp (not_empty word word_some, number.digits.digits, number.digits.amount, le-leb x limit number.fits)
 
-pub word_says : {s : List ℕ} {from to x : ℕ} → NumberIn s from to x 4294967295 → read_number (piece from to s) ≡ Number x
+pub word_says : {s : List ℕ} {from to x : ℕ} → NumberIn s from to x 4294967295 → read_number (piece from to s) ≡ Some x
 unfolding read_number is_digit word
 word_says {s} {from} {to} number =
     let first = every_at is_digit (piece from to s) number.digits.digits 0 (word_some number) in

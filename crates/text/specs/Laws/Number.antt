@@ -1,12 +1,12 @@
 -- Laws of reading digits: which bytes are digits, what `every` says of each byte, and that a number in decimal is read back as itself.
 -- Assumes nothing.
 use Rattle.std.specs.Prelude.{Bool, true, false, List, [], ◌∷◌, ◌++◌, ◌≡◌, refl, ℕ, zero, suc, ◌+◌, ◌-◌, ◌*◌, ◌/◌, ◌%◌, ◌^◌, ◌≤◌, ◌<◌}
+use Rattle.std.specs.Prelude.{Some}
 use Rattle.std.specs.Prelude.{length, get_or}
 use Rattle.std.proofs.lemmas.Bool.{false≢true, lt-leb}
 use Rattle.std.proofs.Math.Bool.{and-false}
 use Rattle.std.proofs.Common.{sym, ap, ◌∙◌, le_of_suc-le-suc, arith, le-leb, ne_eqb}
 use Rattle.bools.proofs.Laws.Tests.{both}
-use Rattle.text.specs.declared.number.Reading.TheVariants.{Number}
 use Rattle.decimals.specs.Decimal.{decimal}
 use Rattle.decimals.proofs.Laws.Decimal.{decimal_small, decimal_large, decimal_ind, count_positive}
 use Rattle.text.specs.Number.{is_digit, every, value_from, value, read_digits, read_number}
@@ -75,7 +75,7 @@ first_digit : (x : ℕ) → is_digit (get_or (decimal x) 0 0) ≡ true
 first_digit x = every_at is_digit (decimal x) (decimal_digits x) 0 (count_positive x)
 
 -- the word `decimal x` says x
-pub read_decimal : (x : ℕ) → x < 2 ^ 32 → read_number (decimal x) ≡ Number x
+pub read_decimal : (x : ℕ) → x < 2 ^ 32 → read_number (decimal x) ≡ Some x
 unfolding read_number read_digits is_digit
 read_decimal x h =
     let no_minus = ne_eqb (get_or (decimal x) 0 0) 45 (differ is_digit _ 45 (first_digit x) refl) in

@@ -1,10 +1,11 @@
 -- A line that writes numbers in decimal, with one blank between them, is read back as those numbers. Assumes nothing.
 use Rattle.std.specs.Prelude.{true, List, [], ◌∷◌, ◌++◌, ◌≡◌, refl, ℕ, suc, ◌*◌, ◌^◌, ◌≤◌, ◌<◌, length}
+use Rattle.std.specs.Prelude.{Option}
+use Rattle.text.specs.declared.line.Said.TheVariants.{Case}
 use Rattle.std.proofs.Common.{ap, subst, ◌∙◌, lt_trans, arith, lit<, length-append}
 use Rattle.decimals.specs.Decimal.{decimal, spaced, written}
 use Rattle.decimals.proofs.Laws.Decimal.{count_positive, count_below}
-use Rattle.text.specs.declared.number.Reading.{Reading}
-use Rattle.text.specs.Line.{a_case, before, field, fields, longest_line, read_line_of, read_line}
+use Rattle.text.specs.Line.{before, field, fields, longest_line, read_line_of, read_line}
 use Rattle.fields.specs.Fields.{width}
 use Rattle.text.specs.Number.{is_digit, is_numeral, every, Below32}
 use Rattle.text.specs.Laws.Number.{every_append, every_weaker, decimal_digits, read_decimal}
@@ -20,9 +21,9 @@ number_first : (x : ℕ) (xs : List ℕ) (n : ℕ) → x < 2 ^ 32 → fields (su
 unfolding field
 number_first x xs n h =
     one_field (decimal x) (spaced xs) (count_positive x) (every_weaker is_digit is_ink digit_ink _ (decimal_digits x)) (ink_stops xs) n
-    ∙ ap (λ (r : Reading). field r (fields n (spaced xs))) (read_decimal x h)
+    ∙ ap (λ (r : Option ℕ). field r (fields n (spaced xs))) (read_decimal x h)
 
-spaced_fields : (xs : List ℕ) → Below32 xs → fields (length xs) (spaced xs) ≡ a_case xs
+spaced_fields : (xs : List ℕ) → Below32 xs → fields (length xs) (spaced xs) ≡ Case xs
 unfolding spaced Below32 before fields drop_blanks run is_empty is_blank
 spaced_fields [] h = refl
 spaced_fields (x ∷ xs) h =
@@ -50,7 +51,7 @@ spaced_length (x ∷ xs) h =
     omega (arith, length-append (decimal x) (spaced xs), short x (h 0), spaced_length xs (λ i. h (suc i)))
 
 read_back : (x : ℕ) (xs : List ℕ) → Below32 (x ∷ xs) → suc (length xs) * 11 ≤ longest_line
-    → read_line_of (suc (length xs)) (decimal x ++ spaced xs) ≡ a_case (x ∷ xs)
+    → read_line_of (suc (length xs)) (decimal x ++ spaced xs) ≡ Case (x ∷ xs)
 unfolding Below32 before
 read_back x xs h k =
     let size = length-append (decimal x) (spaced xs) in
@@ -65,13 +66,13 @@ read_back x xs h k =
 
 -- as many numbers as a line has room for, at eleven bytes each
 pub round_trip : (xs : List ℕ) → 0 < length xs → length xs * 11 ≤ longest_line → Below32 xs →
-    read_line_of (length xs) (written xs) ≡ a_case xs
+    read_line_of (length xs) (written xs) ≡ Case xs
 unfolding written
 round_trip [] m k h = absurd (omega arith)
 round_trip (x ∷ xs) m k h = read_back x xs h k
 
 -- a case
-pub round_trip_case : (xs : List ℕ) → length xs ≡ width → Below32 xs → read_line (written xs) ≡ a_case xs
+pub round_trip_case : (xs : List ℕ) → length xs ≡ width → Below32 xs → read_line (written xs) ≡ Case xs
 unfolding read_line
 round_trip_case xs e h =
-    subst (λ (n : ℕ). read_line_of n (written xs) ≡ a_case xs) e (round_trip xs (omega arith) (omega arith) h)
+    subst (λ (n : ℕ). read_line_of n (written xs) ≡ Case xs) e (round_trip xs (omega arith) (omega arith) h)

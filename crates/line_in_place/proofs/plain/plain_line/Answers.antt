@@ -1,15 +1,16 @@
 -- `line_in_place::plain::plain_line` meets its contract. The invariant: the numbers read so far are a row, and each took twelve bytes at
--- most. The measure is the count of numbers that are left before the last.
+-- most.
 -- Assumes nothing.
 use Rattle.std.proofs.Common.{rules, Bool, List, [], add-one, ap, arith, cond, eqb, false, get_or, le_refl, length, length-set, lit≤, refl}
 use Rattle.std.proofs.Common.{set, subst, suc, sym, take, take-suc-set, take_all, true, ℕ, ◌++◌, ◌+◌, ◌<◌, ◌∙◌, ◌∷◌, ◌≡◌, ◌≤◌}
-use Rattle.bools.proofs.Laws.Tests.{other_outcome}
 use Rattle.line_in_place.specs.NumberAt.{NumberAt}
 use Rattle.line_in_place.specs.Plain.{PlainLine, longest_plain}
 use Rattle.line_in_place.specs.Laws.Row.{Row, row_none, row_more, row_ends}
+use Rattle.line_in_place.specs.Standing.{line_of}
+use Rattle.line_in_place.specs.Laws.Standing.{stands_whole}
+use Rattle.text.specs.Line.{read_line}
 use Rattle.text.specs.Words.{is_blank}
 use Rattle.line_in_place.proofs.plain.plain_line.Invariants.{Reading-on}
-use Rattle.std.proofs.lemmas.Bool.{not-false}
 use Rattle.line_in_place.proofs.plain.plain_line.Goals as goal
 
 at_most_one : (t : Bool) (n : ℕ) → cond t (n + 1) n ≤ n + 1
@@ -61,48 +62,24 @@ loop-i-init c = record {
   row = row_none _ _;
 }
 
-pub number_at-number-requires : goal.number_at-number-requires
+pub number_at-requires : goal.number_at-requires
 unfolding longest_plain
-number_at-number-requires c = let on = c.loop-i.invariant in
+number_at-requires c = let on = c.loop-i.invariant in
     omega (arith, on.space, on.near)
 
-pub overflow_add-at : goal.overflow_add-at
-overflow_add-at c = omega (arith, (c.number_at-number.ensures (not-false _ c.if-not-number.false)).inside)
-
 pub loop-i-preserved : goal.loop-i-preserved
-loop-i-preserved c = let number = c.number_at-number.ensures (not-false _ c.if-not-number.false) in
-    next c.loop-i.invariant number c.loop-i-test.true (sym c.is_blank.ensures ∙ search rules)
+loop-i-preserved c = next c.loop-i.invariant c.in_ok-number.ensures c.loop-i-test.true (sym c.is_blank.ensures ∙ search rules)
 
-pub number_at-last-requires : goal.number_at-last-requires
+pub number_at-requires-2 : goal.number_at-requires-2
 unfolding longest_plain
-number_at-last-requires c = let on = c.loop-i.invariant in
+number_at-requires-2 c = let on = c.loop-i.invariant in
     omega (arith, on.space, on.near, on.count)
 
-pub bounds-s-end : goal.bounds-s-end
-bounds-s-end c = let number = c.number_at-last.ensures (not-false _ c.if-not-last.false) in
-    end_inside c.loop-i.invariant number _ c.past_return-end.ensures
+pub bounds-s-to : goal.bounds-s-to
+bounds-s-to c = end_inside c.loop-i.invariant c.in_ok-last.ensures _ c.past_return-to.ensures
 
 pub returns : goal.returns
-returns c found = let number = c.number_at-last.ensures (not-false _ c.if-not-last.false) in
-    done c.loop-i.invariant number _ c.past_return-end.ensures c.loop-i-test.false (lit≤ tt) (omega arith)
-
-pub returns-then-not-has_room : goal.returns-then-not-has_room
-returns-then-not-has_room c = other_outcome _ c.not_plain.ensures
-
-pub returns-then-not-number : goal.returns-then-not-number
-returns-then-not-number c = other_outcome _ c.not_plain-then-not-number.ensures
-
-pub bounds-s-to : goal.bounds-s-to
-bounds-s-to c = (c.number_at-number.ensures (not-false _ c.if-not-number.false)).inside
-
-pub returns-then-not-is_blank : goal.returns-then-not-is_blank
-returns-then-not-is_blank c = other_outcome _ c.not_plain-then-not-is_blank.ensures
-
-pub returns-then-not-last : goal.returns-then-not-last
-returns-then-not-last c = other_outcome _ c.not_plain-then-not-last.ensures
-
-pub past_return-end-requires : goal.past_return-end-requires
-past_return-end-requires c = (c.number_at-last.ensures (not-false _ c.if-not-last.false)).inside
-
-pub returns-then-s-end-ne10 : goal.returns-then-s-end-ne10
-returns-then-s-end-ne10 c = other_outcome _ c.not_plain-then-s-end-ne10.ensures
+unfolding line_of read_line
+returns c =
+    let line = done c.loop-i.invariant c.in_ok-last.ensures _ c.past_return-to.ensures c.loop-i-test.false (lit≤ tt) (omega arith) in
+    stands_whole _ _ _ line.end _ line.inside (sym line.says)

@@ -1,7 +1,7 @@
 -- `line_in_place::plain::plain_line` meets its contract. The invariant: the numbers read so far are a row, and each took twelve bytes at
--- most. The measure is the count of numbers that are left before the last.
+-- most.
 -- Assumes nothing.
-use Rattle.std.proofs.Common.{List, length, suc, take, ℕ, ◌*◌, ◌+◌, ◌-◌, ◌≡◌, ◌≤◌}
+use Rattle.std.proofs.Common.{List, length, suc, take, ℕ, ◌*◌, ◌+◌, ◌≡◌, ◌≤◌}
 use Rattle.line_in_place.specs.Plain.{longest_plain}
 use Rattle.line_in_place.specs.Laws.Row.{Row}
 use Rattle.line_in_place.proofs.plain.plain_line.Given as goal
@@ -16,6 +16,3 @@ pub record Reading-on (n : ℕ) (s : List ℕ) (from : ℕ) (l : List ℕ) (at i
 
 abbrev pub invariant-loop-i : goal.invariant-loop-i
 invariant-loop-i l = Reading-on 25 l.s l.from l.fields l.at l.i
-
-abbrev pub decreases-loop-i : goal.decreases-loop-i
-decreases-loop-i l = 25 - l.i

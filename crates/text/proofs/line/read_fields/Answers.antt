@@ -1,13 +1,12 @@
 -- `text::line::read_fields` meets its contract. The invariant: what the line says is the i numbers read so far in front of what the
--- words from `at` on say. The measure is the count of numbers that are left.
+-- words from `at` on say.
 -- Assumes nothing.
 use Rattle.std.proofs.Common.{List, add-one, ap, arith, drop, length, length-set, refl, set, suc, sym, take, take-suc-set, take_all, ℕ}
+use Rattle.std.specs.Prelude.{Option, Some, None}
+use Rattle.text.specs.declared.line.Said.TheVariants.{Case, Unreadable}
 use Rattle.std.proofs.Common.{◌+◌, ◌-◌, ◌<◌, ◌∙◌, ◌≡◌, ◌≤◌}
-use Rattle.text.specs.declared.number.Reading.{Reading}
-use Rattle.text.specs.declared.number.Reading.TheVariants.{Number, Nothing}
 use Rattle.text.specs.Laws.After.{after, after_one, after_unreadable, after_none}
-use Rattle.text.specs.Answer.{answer}
-use Rattle.text.specs.Line.{a_case, unreadable, field, fields}
+use Rattle.text.specs.Line.{field, fields}
 use Rattle.fields.specs.Fields.{width}
 use Rattle.text.specs.Laws.Leading.{WordAt}
 use Rattle.text.specs.Laws.Runs.{run_within}
@@ -15,10 +14,10 @@ use Rattle.text.specs.Words.{is_blank, is_ink, run_end}
 use Rattle.text.proofs.Fields.{turn, ends, goes_on}
 use Rattle.text.proofs.line.read_fields.Invariants.{Reading-on}
 use Rattle.text.proofs.line.read_fields.Goals as goal
-use Rattle.text.proofs.line.read_fields.Goals.{In-loop-i}
+use Rattle.text.proofs.line.read_fields.Goals.{In-loop-field}
 
 -- what the words from `at` on say, where one is read as r
-module _ {n : ℕ} {s l : List ℕ} {at i : ℕ} (on : Reading-on n s l at i) (more : i < n) (from to : ℕ) (r : Reading)
+module _ {n : ℕ} {s l : List ℕ} {at i : ℕ} (on : Reading-on n s l at i) (more : i < n) (from to : ℕ) (r : Option ℕ)
     (blanks : from ≡ run_end is_blank s at) (word : WordAt s from to r) where
   one : fields n s ≡ after (take i l) (field r (fields (n - (i + 1)) (drop to s)))
   one =
@@ -27,7 +26,7 @@ module _ {n : ℕ} {s l : List ℕ} {at i : ℕ} (on : Reading-on n s l at i) (m
       ∙ ap (λ (k : ℕ). after (take i l) (fields k (drop at s))) left
       ∙ ap (after (take i l)) (turn (n - (i + 1)) s at from to r blanks word)
 
-  next : (x : ℕ) → r ≡ Number x → Reading-on n s (set l i x) to (i + 1)
+  next : (x : ℕ) → r ≡ Some x → Reading-on n s (set l i x) to (i + 1)
   unfolding field
   next x e =
       record {
@@ -36,17 +35,17 @@ module _ {n : ℕ} {s l : List ℕ} {at i : ℕ} (on : Reading-on n s l at i) (m
         room = length-set l i x ∙ on.room;
         same =
             one
-            ∙ ap (λ (q : Reading). after (take i l) (field q (fields (n - (i + 1)) (drop to s)))) e
+            ∙ ap (λ (q : Option ℕ). after (take i l) (field q (fields (n - (i + 1)) (drop to s)))) e
             ∙ sym (after_one (take i l) x (fields (n - (i + 1)) (drop to s)))
             ∙ ap (λ (t : List ℕ). after t (fields (n - (i + 1)) (drop to s)))
             (sym (ap (λ (k : ℕ). take k (set l i x)) (add-one i) ∙ take-suc-set l i x (rw on.room more)));
       }
 
-  bad : r ≡ Nothing → unreadable ≡ fields n s
+  bad : r ≡ None → Unreadable ≡ fields n s
   unfolding field
   bad e =
       sym (one
-      ∙ ap (λ (q : Reading). after (take i l) (field q (fields (n - (i + 1)) (drop to s)))) e
+      ∙ ap (λ (q : Option ℕ). after (take i l) (field q (fields (n - (i + 1)) (drop to s)))) e
       ∙ after_unreadable (take i l))
 
 -- all numbers are read
@@ -55,61 +54,52 @@ module _ {n : ℕ} {s l : List ℕ} {at i : ℕ} (on : Reading-on n s l at i) (a
   last : fields n s ≡ after (take i l) (fields 0 (drop at s))
   last = on.same ∙ ap (λ (k : ℕ). after (take i l) (fields k (drop at s))) (omega arith)
 
-  done : length s ≤ from → a_case l ≡ fields n s
+  done : length s ≤ from → Case l ≡ fields n s
   done h =
       sym (last
       ∙ ap (after (take i l)) (ends s at from blanks h)
       ∙ after_none (take i l)
-      ∙ ap a_case (take_all i l (rw on.room all)))
+      ∙ ap Case (take_all i l (rw on.room all)))
 
-  too_long : from < length s → unreadable ≡ fields n s
+  too_long : from < length s → Unreadable ≡ fields n s
   too_long h = sym (last ∙ ap (after (take i l)) (goes_on s at from blanks h) ∙ after_unreadable (take i l))
 
-more : (c : In-loop-i) → c.loop-i.i < width
+more : (c : In-loop-field) → c.loop-field.field-index < width
 more c = omega arith
 
-pub loop-i-init : goal.loop-i-init
+pub loop-field-init : goal.loop-field-init
 unfolding after
-loop-i-init c = record { count = omega arith; within = omega arith; room = refl; same = refl }
+loop-field-init c = record { count = omega arith; within = omega arith; room = refl; same = refl }
 
 pub read_word-word-requires : goal.read_word-word-requires
-read_word-word-requires c = rw c.skip_blanks-from.ensures (run_within is_blank _ _ c.loop-i.invariant.within)
+read_word-word-requires c = rw c.skip_blanks-from.ensures (run_within is_blank _ _ c.loop-field.invariant.within)
 
-pub returns-in-Nothing : goal.returns-in-Nothing
-unfolding answer
-returns-in-Nothing c = c.no_case.ensures
-    ∙ ap answer
-    (bad
-    c.loop-i.invariant
-    (more (goal.at.returns-in-Nothing c).In-loop-i)
+pub returns-in_default : goal.returns-in_default
+returns-in_default c =
+    bad
+    c.loop-field.invariant
+    (more (goal.at.returns-in_default c).In-loop-field)
     _
     _
     _
     c.skip_blanks-from.ensures
     c.read_word-word.ensures
-    c.in-Nothing.is)
+    c.in_default.is
 
-pub loop-i-smaller : goal.loop-i-smaller
-loop-i-smaller c = omega arith
-
-pub loop-i-preserved : goal.loop-i-preserved
-loop-i-preserved c = next
-    c.loop-i.invariant
-    (more (goal.at.loop-i-preserved c).In-loop-i)
+pub loop-field-preserved : goal.loop-field-preserved
+loop-field-preserved c = next
+    c.loop-field.invariant
+    (more (goal.at.loop-field-preserved c).In-loop-field)
     _
     _
     _
     c.skip_blanks-from.ensures
     c.read_word-word.ensures
     _
-    c.in-Number.is
+    c.in-Some.is
 
 pub returns-then-skip_blanks-s : goal.returns-then-skip_blanks-s
-unfolding answer
-returns-then-skip_blanks-s c = c.no_case-then-skip_blanks-s.ensures
-    ∙ ap answer
-    (too_long c.loop-i.invariant c.loop-i-test.false _ c.skip_blanks.ensures c.if-skip_blanks-s.true)
+returns-then-skip_blanks-s c = too_long c.loop-field.invariant c.loop-field-test.false _ c.skip_blanks.ensures c.if-skip_blanks-s.true
 
 pub returns : goal.returns
-unfolding answer
-returns c = ap answer (done c.loop-i.invariant c.loop-i-test.false _ c.skip_blanks.ensures c.if-skip_blanks-s.false)
+returns c = done c.loop-field.invariant c.loop-field-test.false _ c.skip_blanks.ensures c.if-skip_blanks-s.false

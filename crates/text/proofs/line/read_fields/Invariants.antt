@@ -1,5 +1,5 @@
 -- `text::line::read_fields` meets its contract. The invariant: what the line says is the i numbers read so far in front of what the
--- words from `at` on say. The measure is the count of numbers that are left.
+-- words from `at` on say.
 -- Assumes nothing.
 use Rattle.std.proofs.Common.{List, drop, length, take, ℕ, ◌-◌, ◌≡◌, ◌≤◌}
 use Rattle.text.specs.Laws.After.{after}
@@ -14,8 +14,5 @@ pub record Reading-on (n : ℕ) (s l : List ℕ) (at i : ℕ) : Type 0 where
   pub room : length l ≡ n
   pub same : fields n s ≡ after (take i l) (fields (n - i) (drop at s))
 
-abbrev pub invariant-loop-i : goal.invariant-loop-i
-invariant-loop-i l = Reading-on width l.s l.fields l.at l.i
-
-abbrev pub decreases-loop-i : goal.decreases-loop-i
-decreases-loop-i l = width - l.i
+abbrev pub invariant-loop-field : goal.invariant-loop-field
+invariant-loop-field l = Reading-on width l.s l.field-items l.at l.field-index

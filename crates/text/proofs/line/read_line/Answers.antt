@@ -2,7 +2,6 @@
 -- Assumes nothing.
 use Rattle.std.proofs.Common.{Bool, List, ap, arith, cond, eqb, false, get_or, le-ltb, le_refl, length, length-take-le, sym, take, true}
 use Rattle.std.proofs.Common.{ℕ, ◌-◌, ◌∙◌, ◌≡◌, ◌≤◌}
-use Rattle.text.specs.Answer.{answer}
 use Rattle.text.specs.Laws.Gather.{too_long}
 use Rattle.text.specs.Line.{says, text_length, longest_line, read_line_of, read_line}
 use Rattle.fields.specs.Fields.{width}
@@ -21,8 +20,8 @@ unfolding text_length
 within l k e = rw e (one_less (eqb (get_or l (length l - 1) 0) 13) (length l))
 
 pub returns-then-line-gt-LONGEST : goal.returns-then-line-gt-LONGEST
-unfolding answer read_line
-returns-then-line-gt-LONGEST c = c.no_case.ensures ∙ ap answer (sym (too_long width _ (omega arith)))
+unfolding read_line
+returns-then-line-gt-LONGEST c = sym (too_long width _ (omega arith))
 
 pub slice_bounds-read_text-end : goal.slice_bounds-read_text-end
 slice_bounds-read_text-end c = let l = c.args.line.now in
@@ -30,4 +29,4 @@ slice_bounds-read_text-end c = let l = c.args.line.now in
 
 pub returns : goal.returns
 unfolding read_line
-returns c = c.read_text.ensures ∙ ap answer (taken width _ _ c.if-line-gt-LONGEST.false c.text_length-n.ensures)
+returns c = c.read_text.ensures ∙ taken width _ _ c.if-line-gt-LONGEST.false c.text_length-n.ensures

@@ -1,20 +1,16 @@
 -- `text::line::read_word` meets its contract: at most ten digits after which no word goes on are the word, and any other word is
 -- read from its start to its end.
 -- Assumes nothing.
-use Rattle.std.proofs.Common.{arith, sym}
+use Rattle.std.proofs.Common.{sym}
 use Rattle.text.specs.Gather.{piece}
-use Rattle.text.specs.Laws.Leading.{number_in, word_ends, word_says}
+use Rattle.text.specs.Laws.Leading.{word_ends, word_says}
 use Rattle.text.specs.Laws.Runs.{run_within}
 use Rattle.text.specs.Words.{is_ink}
 use Rattle.text.proofs.line.read_word.Goals as goal
 
-pub overflow_cast-result : goal.overflow_cast-result
-overflow_cast-result c = let leading = c.leading_digits-digits.ensures in
-    omega (arith, (number_in _ leading c.is_number.ensures c.if-is_number.true).fits)
-
 pub returns-then-is_past_word : goal.returns-then-is_past_word
-returns-then-is_past_word c = let leading = c.leading_digits-digits.ensures in
-    let number = number_in _ leading c.is_number.ensures c.if-is_number.true in
+returns-then-is_past_word c =
+    let number = c.in-Some.ensures in
     let past = c.is_past_word.ensures c.if-is_past_word.true in
     record { end_is = word_ends _ _ _ _ number.digits past; said_is = sym (word_says number) }
 

@@ -1,7 +1,7 @@
 -- `text::number::leading_digits` meets its contract. The invariant: the bytes passed are digits of the value so far, which is below 10^i,
--- and the digits from there on end where all do. The measure is how many of the ten are left.
+-- and the digits from there on end where all do.
 -- Assumes nothing.
-use Rattle.std.proofs.Common.{List, ℕ, ◌+◌, ◌-◌, ◌<◌, ◌^◌, ◌≡◌, ◌≤◌}
+use Rattle.std.proofs.Common.{List, ℕ, ◌+◌, ◌<◌, ◌^◌, ◌≡◌, ◌≤◌}
 use Rattle.text.specs.Leading.{DigitsIn}
 use Rattle.text.specs.Number.{is_digit}
 use Rattle.text.specs.Words.{run_end}
@@ -16,6 +16,3 @@ pub record Read-so-far (s : List ℕ) (from value i : ℕ) : Type 0 where
 
 abbrev pub invariant-loop-i : goal.invariant-loop-i
 invariant-loop-i l = Read-so-far l.s l.from l.value l.i
-
-abbrev pub decreases-loop-i : goal.decreases-loop-i
-decreases-loop-i l = 10 - l.i

@@ -1,39 +1,38 @@
--- `text::number::read_number` meets its contract: the tests that led to a `return` say which case of `read_number` holds.
+-- `text::number::read_number` meets its contract: the first byte says which case of `read_number` holds.
 -- Assumes nothing.
-use Rattle.std.proofs.Common.{List, [], ap, arith, drop, eq-eqb, get_or, length, length-drop, ne_eqb, sym, take, take_all, ℕ, ◌-◌, ◌∙◌}
-use Rattle.std.proofs.Common.{◌∷◌, ◌≡◌}
-use Rattle.text.specs.declared.number.Reading.{Reading}
-use Rattle.text.specs.declared.number.Reading.TheVariants.{Nothing}
+use Rattle.std.proofs.Common.{Bool, true, false, refl, rules, List, [], ap, drop, eqb, sym, take, ℕ, ◌∙◌, ◌∷◌, ◌≡◌}
+use Rattle.std.proofs.Common.{Some, cond}
+use Rattle.std.specs.Cmp.Lexicographic.{pointwise}
+use Rattle.std.proofs.Math.Bool.{and-true}
+use Rattle.bools.proofs.Laws.Tests.{both}
+use Rattle.text.proofs.Digits.{opposite}
 use Rattle.text.specs.Number.{read_digits, negated, read_number}
-use Rattle.text.proofs.Digits as digits
 use Rattle.text.proofs.number.read_number.Goals as goal
 
-plain : (w : List ℕ) → (get_or w 0 0 ≡ 45 → ⊥) → read_digits 4294967295 w ≡ read_number w
+-- whether the one byte of "-" is the first of the word
+first_is : (w : List ℕ) (t : Bool) → pointwise eqb (take 1 w) (45 ∷ []) ≡ t
+    → read_number w ≡ cond t (negated (read_digits 2147483648 (drop 1 w))) (read_digits 4294967295 w)
 unfolding read_number
-plain w h = simp (ne_eqb _ _ h)
+first_is [] true e = cc
+first_is [] false e = refl
+first_is (b ∷ w) true e = rw (both (eqb b 45) true e).0
+first_is (b ∷ w) false e = rw (sym (and-true (eqb b 45)) ∙ e)
 
-empty : (w : List ℕ) → length w ≡ 0 → Nothing ≡ read_number w
-empty [] e = digits.empty 4294967295 [] e ∙ plain [] (λ h. omega arith)
-empty (b ∷ w) e = absurd (omega arith)
-
--- r is what the word without its first byte says
-minus : (w : List ℕ) (r : Reading) → get_or w 0 0 ≡ 45 → r ≡ read_digits 2147483648 (take (length w - 1) (drop 1 w))
-    → negated r ≡ read_number w
-unfolding read_number
-minus w r h e =
-    let rest : take (length w - 1) (drop 1 w) ≡ drop 1 w = take_all (length w - 1) (drop 1 w) (rw length-drop (omega arith)) in
-    simp (eq-eqb _ _ h) (ap negated (e ∙ ap (read_digits 2147483648) rest))
-
-pub returns-in-Number : goal.returns-in-Number
+pub returns-in_err-read_digits-in-Some : goal.returns-in_err-read_digits-in-Some
 unfolding negated
-returns-in-Number c = ap negated (sym c.in-Number.is) ∙ minus _ _ c.if-w-ne45.false c.read_digits-2.ensures
+returns-in_err-read_digits-in-Some c =
+    let strip = c.in-Some.ensures.cases in
+    c.from_residual.ensures
+    ∙ ap negated (c.in_err-read_digits-in-Some.ensures ∙ ap (read_digits 2147483648) strip.1)
+    ∙ sym (first_is _ _ strip.0)
 
-pub returns-in-Nothing : goal.returns-in-Nothing
+pub returns-in_ok-read_digits-in-Some : goal.returns-in_ok-read_digits-in-Some
 unfolding negated
-returns-in-Nothing c = ap negated (sym c.in-Nothing.is) ∙ minus _ _ c.if-w-ne45.false c.read_digits-2.ensures
+returns-in_ok-read_digits-in-Some c =
+    let strip = c.in-Some.ensures.cases in
+    sym (ap Some (opposite _ _ c.wrapping_neg.ensures c.wrapping_neg.type_inv (search rules)))
+    ∙ ap negated (c.in_ok-read_digits-in-Some.ensures ∙ ap (read_digits 2147483648) strip.1)
+    ∙ sym (first_is _ _ strip.0)
 
-pub returns-then-w-eq0 : goal.returns-then-w-eq0
-returns-then-w-eq0 c = empty _ c.if-w-eq0.true
-
-pub returns-then-w-ne45 : goal.returns-then-w-ne45
-returns-then-w-ne45 c = c.read_digits.ensures ∙ plain _ c.if-w-ne45.true
+pub returns-in-None : goal.returns-in-None
+returns-in-None c = c.read_digits-in-None.ensures ∙ sym (first_is _ _ c.in-None.ensures.cases)

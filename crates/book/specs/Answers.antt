@@ -1,18 +1,24 @@
 -- What the operations return, as the answers of `book_laws`. Assumes nothing.
-use Rattle.std.specs.Prelude.{List, ℕ}
-use Rattle.book.specs.declared.start.Written as CodeWritten
-use Rattle.book.specs.declared.read.Found as CodeFound
-use Rattle.book.specs.declared.accept.Acceptance as CodeAcceptance
-use Rattle.book_laws.specs.Start.{Written}
-use Rattle.book_laws.specs.Read.{Fields}
-use Rattle.book_laws.specs.Accept.{Acceptance}
+use Rattle.std.specs.Prelude.{Result, Ok, Err, List, ℕ}
+use Rattle.book.specs.declared.accept.Accepted as Code
+use Rattle.book_bytes.specs.declared.record.Record.{Record}
+use Rattle.book_bytes.specs.declared.refusal.Refusal.{Refusal}
+use Rattle.book_bytes.specs.Refusal.{number_of, named_by}
+use Rattle.book_bytes.specs.Stored.{fields_in}
+use Rattle.book_laws.specs.Layout.{rbk1}
+use Rattle.book_laws.specs.Start.{Written, unwritten}
+use Rattle.book_laws.specs.Read.{Fields, unread}
+use Rattle.book_laws.specs.Accept.{Acceptance, unaccepted}
 
 -- with every byte of the buffer afterwards
-abbrev pub written_of : CodeWritten.Written → List ℕ → Written
-written_of r b = record { number = r.number; used = r.used; bytes = b }
+abbrev pub written_of : Result ℕ Refusal → List ℕ → Written
+written_of (Ok used) b = record { number = 0; used = used; bytes = b }
+written_of (Err refusal) b = unwritten (number_of refusal) b
 
-abbrev pub fields_read : CodeFound.Found → Fields
-fields_read r = record { number = r.number; fields = r.fields }
+abbrev pub fields_read : Result Record Refusal → Fields
+fields_read (Ok r) = record { number = 0; fields = fields_in r }
+fields_read (Err refusal) = unread rbk1 (number_of refusal)
 
-abbrev pub acceptance_of : CodeAcceptance.Acceptance → Acceptance
-acceptance_of r = record { number = r.number; count = r.count; note = r.note; named = r.named }
+abbrev pub acceptance_of : Result Code.Accepted Refusal → Acceptance
+acceptance_of (Ok a) = record { number = 0; count = a.count; note = a.note; named = 0 }
+acceptance_of (Err refusal) = unaccepted (number_of refusal) (named_by refusal)

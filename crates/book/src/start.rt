@@ -1,38 +1,20 @@
 // Starting a book after a note whose bytes stand at the front of the buffer already.
-ghost use Rattle.std.specs.Prelude.{List, ◌≡◌, ℕ};
-ghost use Rattle.book_laws.specs.Start;
+ghost use Rattle.std.specs.Prelude.{◌≡◌};
 ghost use Rattle.book_laws.specs.Book.{start_of};
 ghost use Rattle.book.specs.Answers.{written_of};
 
 use book_bytes::layout::TRAILER_LENGTH;
-use book_bytes::trailer::put_trailer;
+use book_bytes::part::put;
+use book_bytes::refusal::Refusal;
+use book_bytes::trailer::trailer_of;
 
-// What start and append answer: 0 or the refusal's number, and the new used length.
-#[derive(Clone, Copy)]
-pub struct Written {
-    pub number: u32,
-    pub used: usize,
-}
-
-// A refusal, which has written nothing.
-pub(crate) fn unwritten(number: u32) -> Written
-    ensures { (b : List ℕ) → written_of result b ≡ Start.unwritten number b }
-{
-    Written { number, used: 0 }
-}
-
-pub fn start(buffer: &mut [u8], note: usize) -> Written
+// Answers the used length.
+pub fn start(buffer: &mut [u8], note: usize) -> Result<usize, Refusal>
     ensures { written_of result buffer.new ≡ start_of buffer.old note }
 {
-    if buffer.len() < TRAILER_LENGTH {
-        return unwritten(24);
+    if buffer.len() < TRAILER_LENGTH || buffer.len() - TRAILER_LENGTH < note {
+        return Err(Refusal::Space);
     }
-    if buffer.len() - TRAILER_LENGTH < note {
-        return unwritten(24);
-    }
-    put_trailer(buffer, note, 0);
-    Written {
-        number: 0,
-        used: note + TRAILER_LENGTH,
-    }
+    put(buffer, note, &trailer_of(0));
+    Ok(note + TRAILER_LENGTH)
 }

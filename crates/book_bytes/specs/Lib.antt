@@ -1,2 +1,3 @@
+pub mod Refusal
 pub mod Answers
-pub mod Laws
+pub mod Stored

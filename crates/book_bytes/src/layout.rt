@@ -7,18 +7,12 @@ pub const MARK: [u8; 4] = *b"RBK1";
 // A record is the inputs, the answer and the rating.
 pub const RECORD_FIELDS: usize = WIDTH + 2;
 
-pub type Record = [u32; RECORD_FIELDS];
-
-pub const ANSWER: usize = WIDTH;
-
-pub const RATING: usize = WIDTH + 1;
-
 // In bytes, four a field.
 pub const RECORD_LENGTH: usize = 4 * RECORD_FIELDS;
 
-pub const ANSWER_AT: usize = 4 * ANSWER;
+pub const ANSWER_AT: usize = 4 * WIDTH;
 
-pub const RATING_AT: usize = 4 * RATING;
+pub const RATING_AT: usize = 4 * (WIDTH + 1);
 
 // The trailer is the mark, the count, the distance and the record length.
 pub const TRAILER_LENGTH: usize = 16;

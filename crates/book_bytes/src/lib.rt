@@ -1,9 +1,10 @@
-// The code of a book's format: its layout, fields, the mark, records and the trailer, each as
+// The code of a book's format: its layout, fields, records, trailer and refusals, each as
 // `book_laws` describes it. `book` has the operations.
 #![tactic(auto)]
 
 mod field;
 pub mod layout;
-mod mark;
+pub mod part;
 pub mod record;
+pub mod refusal;
 pub mod trailer;

@@ -1,96 +1,92 @@
-// A record: the inputs, the answer and the rating, each a field.
+// A record: a case, its answer and its rating, and the bytes in which a book stores them.
 ghost use Rattle.std.specs.Prelude.{◌≡◌, ◌+◌, ◌*◌, ◌≤◌, length};
-ghost use Rattle.book_bytes.specs.Laws.Steps.{FieldsMade};
-ghost use Rattle.book_laws.specs.Bytes.{words_at, words_bytes};
-ghost use Rattle.book_laws.specs.Layout.{rbk1, record_fields, record_length};
+ghost use Rattle.book_bytes.specs.Stored.{StoredFrom, fields_in};
+ghost use Rattle.book_laws.specs.Bytes.{words_bytes};
+ghost use Rattle.book_laws.specs.Layout.{rbk1, record_length};
 ghost use Rattle.book_laws.specs.Record.{case_at, answer_at, rating_at, agrees};
-ghost use Rattle.splice.specs.Splice.{splice};
+ghost use Rattle.rating.specs.Rate.{rate_of};
 
 use super::field::{put_word, word_at};
-use super::layout::{ANSWER, ANSWER_AT, RATING, RATING_AT, RECORD_FIELDS, Record};
+use super::layout::{ANSWER_AT, RATING_AT, RECORD_LENGTH};
 use fields::{Case, WIDTH};
 use rating::rate::rate;
 
-// Reads fields one after another from `at` on, as many as `words` has places.
-fn read_words(buffer: &[u8], at: usize, words: &mut [u32])
-    requires { at + 4 * length words.old ≤ length buffer.now }
-    ensures { words.new ≡ words_at buffer.now at (length words.old) }
-{
-    let mut i = 0;
-    while i < words.len() {
-        words[i] = word_at(buffer, at + 4 * i);
-        i += 1;
+// The bytes of a record.
+pub type Stored = [u8; RECORD_LENGTH];
+
+// The answer is 0 for a rated case, and otherwise the refusal's number.
+#[derive(Clone, Copy)]
+pub struct Record {
+    pub case: Case,
+    pub answer: u32,
+    pub rating: u32,
+}
+
+impl Record {
+    // The record that a case gets.
+    pub fn of_case(case: Case) -> Record
+        ensures case { result.case ≡ case }
+        ensures answer { result.answer ≡ (rate_of case).number }
+        ensures rating { result.rating ≡ (rate_of case).rating }
+    {
+        match rate(case) {
+            Ok(rated) => Record {
+                case,
+                answer: 0,
+                rating: rated.rating,
+            },
+            Err(refusal) => Record {
+                case,
+                answer: u32::from(refusal),
+                rating: 0,
+            },
+        }
+    }
+
+    // What the bytes say, not judged.
+    pub fn of_bytes(stored: &Stored) -> Record
+        ensures case { result.case ≡ case_at rbk1 stored.now 0 }
+        ensures answer { result.answer ≡ answer_at rbk1 stored.now 0 }
+        ensures rating { result.rating ≡ rating_at rbk1 stored.now 0 }
+    {
+        let mut case = [0; WIDTH];
+        for (i, field) in case.iter_mut().enumerate() {
+            *field = word_at(stored, 4 * i);
+        }
+        Record {
+            case,
+            answer: word_at(stored, ANSWER_AT),
+            rating: word_at(stored, RATING_AT),
+        }
+    }
+
+    pub fn to_bytes(&self) -> Stored
+        ensures { result ≡ words_bytes (fields_in self.now) }
+    {
+        let mut stored = [0; RECORD_LENGTH];
+        for (i, field) in self.case.iter().enumerate() {
+            put_word(&mut stored, 4 * i, *field);
+        }
+        put_word(&mut stored, ANSWER_AT, self.answer);
+        put_word(&mut stored, RATING_AT, self.rating);
+        stored
     }
 }
 
-// The case of the record at `at`.
-fn case_at(buffer: &[u8], at: usize) -> Case
-    requires { at + 4 * rbk1.inputs ≤ length buffer.now }
-    ensures { result ≡ case_at rbk1 buffer.now at }
+// Whether a record has the answer and the rating of its case.
+pub fn agrees(stored: &Stored) -> bool
+    ensures { result ≡ agrees rbk1 stored.now 0 }
 {
-    let mut x = [0u32; WIDTH];
-    read_words(buffer, at, &mut x);
-    x
+    let record = Record::of_bytes(stored);
+    let rated = Record::of_case(record.case);
+    (record.answer == rated.answer) & (record.rating == rated.rating)
 }
 
-// All fields of the record at `at`.
-pub fn fields_at(buffer: &[u8], at: usize) -> Record
-    requires { at + record_length rbk1 ≤ length buffer.now }
-    ensures { result ≡ words_at buffer.now at (record_fields rbk1) }
+// The records of a book, which stand one after another from `first` on.
+pub fn records(buffer: &[u8], first: usize, count: usize) -> &[Stored]
+    requires { first + record_length rbk1 * count ≤ length buffer.now }
+    ensures { StoredFrom buffer.now first count result.now }
 {
-    let mut fields = [0u32; RECORD_FIELDS];
-    read_words(buffer, at, &mut fields);
-    fields
-}
-
-// The answer of the record at `at`.
-pub fn answer_at(buffer: &[u8], at: usize) -> u32
-    requires { at + record_length rbk1 ≤ length buffer.now }
-    ensures { result ≡ answer_at rbk1 buffer.now at }
-{
-    word_at(buffer, at + ANSWER_AT)
-}
-
-// The rating of the record at `at`.
-pub fn rating_at(buffer: &[u8], at: usize) -> u32
-    requires { at + record_length rbk1 ≤ length buffer.now }
-    ensures { result ≡ rating_at rbk1 buffer.now at }
-{
-    word_at(buffer, at + RATING_AT)
-}
-
-// The fields of a record.
-pub fn fields_of(x: Case, answer: u32, rating: u32) -> Record
-    ensures { FieldsMade x answer rating result }
-{
-    let mut fields = [0u32; RECORD_FIELDS];
-    let mut i = 0;
-    while i < WIDTH {
-        fields[i] = x[i];
-        i += 1;
-    }
-    fields[ANSWER] = answer;
-    fields[RATING] = rating;
-    fields
-}
-
-// Writes the fields of a record at `at`.
-pub fn put_fields(buffer: &mut [u8], at: usize, fields: Record)
-    requires { at + record_length rbk1 ≤ length buffer.old }
-    ensures { buffer.new ≡ splice buffer.old at (words_bytes fields) }
-{
-    let mut i = 0;
-    while i < RECORD_FIELDS {
-        put_word(buffer, at + 4 * i, fields[i]);
-        i += 1;
-    }
-}
-
-// Whether the record at `at` is its case's rating.
-pub fn record_agrees(buffer: &[u8], at: usize) -> bool
-    requires { at + record_length rbk1 ≤ length buffer.now }
-    ensures { result ≡ agrees rbk1 buffer.now at }
-{
-    let a = rate(case_at(buffer, at));
-    (answer_at(buffer, at) == a.answer) & (rating_at(buffer, at) == a.rating)
+    let (records, _) = buffer[first..first + RECORD_LENGTH * count].as_chunks();
+    records
 }

@@ -1,35 +1,23 @@
 // The trailer: the mark, the count, the distance back to the first record and the length of a record.
-ghost use Rattle.std.specs.Prelude.{◌≡◌, ◌+◌, ◌≤◌, length};
+ghost use Rattle.std.specs.Prelude.{◌≡◌, ◌≤◌};
 ghost use Rattle.book_laws.specs.Book.{describe};
 ghost use Rattle.book_laws.specs.Format.{trailer_bytes};
-ghost use Rattle.book_laws.specs.Layout.{rbk1, trailer_length};
-ghost use Rattle.book_laws.specs.Trailer;
-ghost use Rattle.book_laws.specs.Trailer.{describe_at, wrong_trailer};
+ghost use Rattle.book_laws.specs.Layout.{rbk1};
+ghost use Rattle.book_laws.specs.Trailer.{wrong_trailer};
 ghost use Rattle.book_bytes.specs.Answers.{description_of};
-ghost use Rattle.splice.specs.Splice.{splice};
 
 use super::field::{put_word, word_at};
 use super::layout::{
-    COUNT_AT, DISTANCE_AT, LENGTH_AT, MOST_RECORDS, RECORD_LENGTH, TRAILER_LENGTH,
+    COUNT_AT, DISTANCE_AT, LENGTH_AT, MARK, MOST_RECORDS, RECORD_LENGTH, TRAILER_LENGTH,
 };
-use super::mark::{has_mark, put_mark};
+use super::part::put;
+use super::refusal::Refusal;
 
-// What a trailer says: 0 or the refusal's number, how many records there are, and where the first one stands.
+// What a trailer says: how many records there are, and where the first one stands.
 #[derive(Clone, Copy)]
 pub struct Description {
-    pub number: u32,
     pub count: usize,
     pub first: usize,
-}
-
-fn undescribed(number: u32) -> Description
-    ensures { description_of result ≡ Trailer.undescribed number }
-{
-    Description {
-        number,
-        count: 0,
-        first: 0,
-    }
 }
 
 fn wrong_trailer(before: usize, count: usize, distance: usize, length: usize) -> bool
@@ -41,44 +29,40 @@ fn wrong_trailer(before: usize, count: usize, distance: usize, length: usize) ->
     (distance != RECORD_LENGTH * count) | (length != RECORD_LENGTH) | (before < distance)
 }
 
-fn describe_at(buffer: &[u8], at: usize) -> Description
-    requires { at + trailer_length rbk1 ≤ length buffer.now }
-    ensures { description_of result ≡ describe_at rbk1 buffer.now at }
-{
-    if !has_mark(buffer, at) {
-        return undescribed(21);
-    }
-    let count = word_at(buffer, at + COUNT_AT) as usize;
-    let distance = word_at(buffer, at + DISTANCE_AT) as usize;
-    let length = word_at(buffer, at + LENGTH_AT) as usize;
-    if wrong_trailer(at, count, distance, length) {
-        return undescribed(22);
-    }
-    Description {
-        number: 0,
-        count,
-        first: at - distance,
-    }
-}
-
-pub fn describe_book(buffer: &[u8], used: usize) -> Description
+// The used length may be past the buffer: it comes from C, or from a file, and refusal 20 is for it.
+pub fn describe_book(buffer: &[u8], used: usize) -> Result<Description, Refusal>
     ensures { description_of result ≡ describe buffer.now used }
 {
-    if buffer.len() < used {
-        return undescribed(20);
+    let Some(book) = buffer.get(..used) else {
+        return Err(Refusal::Length);
+    };
+    let Some((before, trailer)) = book.split_last_chunk::<TRAILER_LENGTH>() else {
+        return Err(Refusal::Mark);
+    };
+    if !trailer.starts_with(&MARK) {
+        return Err(Refusal::Mark);
     }
-    if used < TRAILER_LENGTH {
-        return undescribed(21);
+    let count = word_at(trailer, COUNT_AT) as usize;
+    let distance = word_at(trailer, DISTANCE_AT) as usize;
+    let length = word_at(trailer, LENGTH_AT) as usize;
+    if wrong_trailer(before.len(), count, distance, length) {
+        return Err(Refusal::Trailer);
     }
-    describe_at(buffer, used - TRAILER_LENGTH)
+    Ok(Description {
+        count,
+        first: before.len() - distance,
+    })
 }
 
-pub fn put_trailer(buffer: &mut [u8], at: usize, count: u32)
-    requires { (at + trailer_length rbk1 ≤ length buffer.old) × (count ≤ rbk1.most) }
-    ensures { buffer.new ≡ splice buffer.old at (trailer_bytes rbk1 count) }
+// The bytes of the trailer of a book of `count` records.
+pub fn trailer_of(count: u32) -> [u8; TRAILER_LENGTH]
+    requires { count ≤ rbk1.most }
+    ensures { result ≡ trailer_bytes rbk1 count }
 {
-    put_mark(buffer, at);
-    put_word(buffer, at + COUNT_AT, count);
-    put_word(buffer, at + DISTANCE_AT, RECORD_LENGTH as u32 * count);
-    put_word(buffer, at + LENGTH_AT, RECORD_LENGTH as u32);
+    let mut trailer = [0; TRAILER_LENGTH];
+    put(&mut trailer, 0, &MARK);
+    put_word(&mut trailer, COUNT_AT, count);
+    put_word(&mut trailer, DISTANCE_AT, RECORD_LENGTH as u32 * count);
+    put_word(&mut trailer, LENGTH_AT, RECORD_LENGTH as u32);
+    trailer
 }

@@ -1,4 +1,3 @@
 -- What follows from the definition of a number in decimal. Assumes nothing.
 pub mod Decimal
-pub mod Leading
-pub mod Parts
+pub mod Library

@@ -1,3 +1,2 @@
--- Numbers in decimal, and laws about them. Assumes nothing.
+-- Numbers in decimal. Assumes nothing.
 pub mod Decimal
-pub mod Laws

@@ -1,2 +1,2 @@
+-- The listing of a book. Assumes nothing.
 pub mod Listing
-pub mod Laws

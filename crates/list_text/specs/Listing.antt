@@ -31,11 +31,14 @@ unfoldable pub disagrees_line : ℕ → List ℕ
 disagrees_line k =
     (114 ∷ 101 ∷ 102 ∷ 117 ∷ 115 ∷ 101 ∷ 100 ∷ 32 ∷ 50 ∷ 51 ∷ 32 ∷ 97 ∷ 116 ∷ 32 ∷ []) ++ decimal k ++ (10 ∷ [])
 
+-- by a refusal's number, and the record that 23 names
+unfoldable pub refusal_line : ℕ → ℕ → List ℕ
+refusal_line number named = cond (eqb number 23) (disagrees_line named) (refused_line number)
+
 -- by what accept answers: the first record stands after the note
 unfoldable pub listing_for : Layout → List ℕ → Acceptance → List ℕ
 listing_for l b a =
-    cond (eqb a.number 0) (book_line a.count ++ record_lines l b a.note a.count)
-    (cond (eqb a.number 23) (disagrees_line a.named) (refused_line a.number))
+    cond (eqb a.number 0) (book_line a.count ++ record_lines l b a.note a.count) (refusal_line a.number a.named)
 
 unfoldable pub listing_of : List ℕ → ℕ → List ℕ
 listing_of b used = listing_for (layout_of b used) b (accept_of b used)

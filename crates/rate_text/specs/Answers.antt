@@ -2,7 +2,9 @@
 use Rattle.std.specs.Prelude.{List, [], ◌∷◌, ◌++◌, ℕ}
 use Rattle.rating.specs.Rate.{Answer, rate_of}
 use Rattle.decimals.specs.Decimal.{decimal, written}
-use Rattle.text.specs.Line.{Said, passed_over, a_case, unreadable, read_line}
+use Rattle.text.specs.declared.line.Said.{Said}
+use Rattle.text.specs.declared.line.Said.TheVariants.{PassedOver, Case, Unreadable}
+use Rattle.text.specs.Line.{read_line}
 
 -- room for what is printed for any line, and in it for a sheet: 13 numbers of at most 20 digits with a blank before each
 abbrev pub answer_room : ℕ
@@ -25,9 +27,9 @@ unreadable_text k = about_line k (58 ∷ 32 ∷ 117 ∷ 110 ∷ 114 ∷ 101 ∷ 
 
 -- what is printed for line k, by what it says
 unfoldable pub printed_for : ℕ → Said → List ℕ
-printed_for k passed_over = []
-printed_for k (a_case xs) = text_of (rate_of xs)
-printed_for k unreadable = unreadable_text k
+printed_for k PassedOver = []
+printed_for k (Case xs) = text_of (rate_of xs)
+printed_for k Unreadable = unreadable_text k
 
 -- what is printed for line k, by its bytes without the line feed
 unfoldable pub printed : ℕ → List ℕ → List ℕ

@@ -13,6 +13,8 @@ pub mod Allowed
 pub mod FieldRefusals
 pub mod Stage10
 pub mod Refusals
+pub mod Refusal
+pub mod Kind
 pub mod Rate
 pub mod Exact
 pub mod Laws

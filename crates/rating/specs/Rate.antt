@@ -1,7 +1,9 @@
 -- What `rate` answers to a case: the number of the first refusal that applies, in rising order, with rating 0 and a sheet of zeros;
 -- or 0, the rating of stage 10 and the sheet. Assumes nothing.
-use Rattle.std.specs.Prelude.{◌≡◌, refl, cond, ◌&&◌, List, [], ◌∷◌, ℕ, eqb, replicate}
-use Rattle.rating.specs.declared.rate.Answer as Code
+use Rattle.std.specs.Prelude.{◌≡◌, refl, cond, ◌&&◌, List, [], ◌∷◌, ℕ, eqb, replicate, Result, Ok, Err}
+use Rattle.rating.specs.declared.rate.Rated.{Rated}
+use Rattle.rating.specs.declared.refusal.Refusal.{Refusal}
+use Rattle.rating.specs.Refusal.{number_of}
 use Rattle.formulas.specs.Refusals.{skin_refused, eddy_refused, dielectric_refused, current_refused}
 use Rattle.rating.specs.Values.{R', Rs, B, zs, zp, ys, yp, Wd, rise_of}
 use Rattle.rating.specs.Arrangements.{own}
@@ -14,12 +16,13 @@ pub record Answer : Type 0 where
   pub rating : ℕ
   pub sheet : List ℕ
 
--- what `rate` returns, as an answer
-abbrev pub answer_of : Code.Answer → Answer
-answer_of r = record { number = r.answer; rating = r.rating; sheet = r.sheet }
-
 unfoldable pub refused : ℕ → Answer
 refused n = record { number = n; rating = 0; sheet = replicate 13 0 }
+
+-- what `rate` returns, as an answer
+abbrev pub answer_of : Result Rated Refusal → Answer
+answer_of (Ok r) = record { number = 0; rating = r.rating; sheet = r.sheet }
+answer_of (Err refusal) = refused (number_of refusal)
 
 -- R', Rs, RA, B, ys, yp, R, X, S, W, Wd, dd, E
 unfoldable pub sheet_of : List ℕ → List ℕ

@@ -2,6 +2,7 @@
 ghost use Rattle.std.specs.Prelude.{◌≡◌};
 ghost use Rattle.rating.specs.Arrangement;
 ghost use Rattle.rating.specs.Arrangements.{own};
+ghost use Rattle.rating.specs.Kind.{Picks, j_of};
 ghost use Rattle.rating.specs.Laws.Steps.{Has, HasPassed, Asks, Loses};
 
 use super::both_ends::{both_ends_losses, both_ends_rules};
@@ -9,18 +10,55 @@ use super::common_sheath::{common_sheath_losses, common_sheath_rules};
 use super::field_refusals::within;
 use super::judge::Shared;
 use super::one_point::{one_point_losses, one_point_rules};
+use super::refusal::Refusal;
 use super::sl_type::{sl_type_losses, sl_type_rules};
 use fields::{
     ARMOUR_DIAMETER, ARMOUR_METAL, ARMOUR_RESISTANCE, ARMOUR_TEMPERATURE, AXIS_DISTANCE, Case,
 };
 
-// The arrangements, each a module with its rules and its losses. OnePoint has j, 1 in arrangement 3 and 2 in 4.
-#[derive(Clone, Copy)]
+// How the cables of arrangements 3 and 4 lie: in trefoil, or flat with the centre cable rated.
+#[derive(Clone, Copy, Debug, PartialEq, Eq)]
+pub enum Formation {
+    Trefoil,
+    Flat,
+}
+
+impl Formation {
+    pub(crate) fn j(self) -> u64
+        ensures { result ≡ j_of self }
+    {
+        match self {
+            Formation::Trefoil => 1,
+            Formation::Flat => 2,
+        }
+    }
+}
+
+// The arrangements, each a module with its rules and its losses.
+#[derive(Clone, Copy, Debug, PartialEq, Eq)]
 pub enum Kind {
     BothEnds,
-    OnePoint(u64),
+    OnePoint(Formation),
     SlType,
     CommonSheath,
+}
+
+#[tactic(auto, unfolding(crate::specs::Arrangements::arrangement_of))]
+impl TryFrom<u32> for Kind {
+    type Error = Refusal;
+
+    ghost try_from_gives = { Picks };
+
+    fn try_from(number: u32) -> Result<Self, Refusal> {
+        match number {
+            1 | 2 => Ok(Kind::BothEnds),
+            3 => Ok(Kind::OnePoint(Formation::Trefoil)),
+            4 => Ok(Kind::OnePoint(Formation::Flat)),
+            5 => Ok(Kind::SlType),
+            6 => Ok(Kind::CommonSheath),
+            _ => Err(Refusal::Arrangement),
+        }
+    }
 }
 
 // Whether a case passes what it asks beyond every arrangement, for refusals 3 to 7; and whether refusal 9 is tried.
@@ -86,7 +124,7 @@ pub(crate) fn losses_of(x: Case, kind: Kind, p: Shared) -> Losses
 {
     match kind {
         Kind::BothEnds => both_ends_losses(x, p),
-        Kind::OnePoint(j) => one_point_losses(x, j, p),
+        Kind::OnePoint(formation) => one_point_losses(x, formation, p),
         Kind::SlType => sl_type_losses(x, p),
         Kind::CommonSheath => common_sheath_losses(x, p),
     }

@@ -1,15 +1,16 @@
 // Refusals 2 to 7, which look at the fields alone: a test for each, and the number of the first that is given.
-ghost use Rattle.std.specs.Prelude.{cond, ◌≡◌, pos, ◌-ℤ◌};
+ghost use Rattle.std.specs.Prelude.{◌≡◌, pos, ◌-ℤ◌};
 ghost use Rattle.std.specs.Int.Signed.{le_z};
 ghost use Rattle.std.specs.Int.{w32};
 ghost use Rattle.std.proofs.Common.{to_z};
 ghost use Rattle.rating.specs.Arrangements.{own};
 ghost use Rattle.rating.specs.FieldRefusals as FieldRefusals;
-ghost use Rattle.rating.specs.Laws.Steps.{Asks};
+ghost use Rattle.rating.specs.Laws.Steps.{Asks, ChecksFields};
 ghost use Rattle.rating.specs.Within as Within;
 
 use super::arrangement::Rules;
 use super::case::number;
+use super::refusal::Refusal;
 use fields::{
     AMBIENT_TEMPERATURE, CONDUCTOR, CONDUCTOR_DIAMETER, CONDUCTOR_RESISTANCE,
     CONDUCTOR_TEMPERATURE, Case, FREQUENCY, INSULATION_DIAMETER, LOSS_FACTOR, PERMITTIVITY,
@@ -114,21 +115,28 @@ fn heat_refused(x: Case, its: bool) -> bool
         & its)
 }
 
-// The number where its refusal is given, else the rest.
-fn first(refused: bool, number: u32, rest: u32) -> u32
-    ensures { result ≡ cond refused number rest }
-{
-    if refused { number } else { rest }
-}
-
-pub(crate) fn field_refusal(x: Case, rules: Rules) -> u32
+#[tactic(auto, unfolding(crate::specs::FieldRefusals::field_refusal, crate::specs::FieldRefusals::arrangement_refused, crate::specs::FieldRefusals::stray_refused, crate::specs::FieldRefusals::metal_refused))]
+pub(crate) fn check_fields(x: Case, rules: Rules) -> Result<(), Refusal>
     requires { Asks (own x) x rules }
-    ensures { result ≡ FieldRefusals.field_refusal x }
+    ensures { ChecksFields x result }
 {
-    let from_metal = first(!rules.metal, 7, 0);
-    let from_heat = first(heat_refused(x, rules.heat), 6, from_metal);
-    let from_geometry = first(geometry_refused(x, rules.geometry), 5, from_heat);
-    let from_stray = first(!rules.unused, 4, from_geometry);
-    let from_limit = first(limit_refused(x, rules.limits), 3, from_stray);
-    first(conductor_refused(x), 2, from_limit)
+    if conductor_refused(x) {
+        return Err(Refusal::Conductor);
+    }
+    if limit_refused(x, rules.limits) {
+        return Err(Refusal::Limit);
+    }
+    if !rules.unused {
+        return Err(Refusal::Stray);
+    }
+    if geometry_refused(x, rules.geometry) {
+        return Err(Refusal::Geometry);
+    }
+    if heat_refused(x, rules.heat) {
+        return Err(Refusal::Heat);
+    }
+    if !rules.metal {
+        return Err(Refusal::Metal);
+    }
+    Ok(())
 }

@@ -6,7 +6,8 @@ use super::arrangement::Rules;
 use super::case::{conductor_resistance, reactance_of, sheath_resistance, skin_ratio_of};
 use super::conductor::conductor;
 use super::dielectric::dielectric_loss_of;
-use super::field_refusals::field_refusal;
+use super::field_refusals::check_fields;
+use super::refusal::Refusal;
 use fields::{CONDUCTOR, Case};
 use tables::{kp, ks};
 
@@ -25,15 +26,8 @@ pub struct Shared {
     pub wd: u64,
 }
 
-// The number of the first refusal that is given, or the values of a case that passed.
-#[derive(Clone, Copy)]
-pub enum Judgement {
-    Refused(u32),
-    Passed(Shared),
-}
-
 // Refusals 8 and 9, where none before them was given. `eddies`: whether 9 is tried.
-fn judge_stages(x: Case, eddies: bool) -> Judgement
+fn judge_stages(x: Case, eddies: bool) -> Result<Shared, Refusal>
     requires { FieldsPass x eddies }
     ensures { Judges x result }
 {
@@ -41,16 +35,16 @@ fn judge_stages(x: Case, eddies: bool) -> Judgement
     let zs = skin_ratio_of(x, ks(x[CONDUCTOR]), rc);
     let zp = skin_ratio_of(x, kp(x[CONDUCTOR]), rc);
     if (SKIN_LIMIT < zs) | (SKIN_LIMIT < zp) {
-        return Judgement::Refused(8);
+        return Err(Refusal::Skin);
     }
     let b = reactance_of(x);
     let rs = sheath_resistance(x);
     if eddies & (rs < 5 * b) {
-        return Judgement::Refused(9);
+        return Err(Refusal::Eddy);
     }
     let wd = dielectric_loss_of(x, b);
     let h = conductor(x, rc, zs, zp);
-    Judgement::Passed(Shared {
+    Ok(Shared {
         rc,
         b,
         rs,
@@ -61,13 +55,10 @@ fn judge_stages(x: Case, eddies: bool) -> Judgement
     })
 }
 
-pub(crate) fn judge(x: Case, rules: Rules) -> Judgement
+pub(crate) fn judge(x: Case, rules: Rules) -> Result<Shared, Refusal>
     requires { Asks (own x) x rules }
     ensures { Judges x result }
 {
-    let first = field_refusal(x, rules);
-    if first == 0 {
-        return judge_stages(x, rules.eddies);
-    }
-    Judgement::Refused(first)
+    check_fields(x, rules)?;
+    judge_stages(x, rules.eddies)
 }

@@ -13,5 +13,6 @@ mod judge;
 mod load;
 mod one_point;
 pub mod rate;
+pub mod refusal;
 mod sheath_reactance;
 mod sl_type;

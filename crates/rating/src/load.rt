@@ -8,7 +8,8 @@ use super::arrangement::Losses;
 use super::case::{number, rise};
 use super::dielectric::dielectric_rise_of;
 use super::judge::Shared;
-use super::rate::{Answer, refuse};
+use super::rate::Rated;
+use super::refusal::Refusal;
 use fields::{Case, T1, T2, T3, T4};
 use stages::rating::{rating, unit_rise};
 
@@ -39,25 +40,24 @@ fn current_of(x: Case, permitted: u64, dd: u64, e: u64) -> u64
     rating(10000000 * permitted - dd, e)
 }
 
-pub(crate) fn load(x: Case, p: Shared, l: Losses) -> Answer
+pub(crate) fn load(x: Case, p: Shared, l: Losses) -> Result<Rated, Refusal>
     requires { Loads x p l }
     ensures { answer_of result ≡ rate_of x }
 {
     let dd = dielectric_rise_of(x, l.n, p.wd);
     let permitted = rise(x);
     if 90000000 * permitted < 10 * dd {
-        return refuse(x, 10);
+        return Err(Refusal::Dielectric);
     }
     let e = unit_rise_of(x, p, l);
     let i = current_of(x, permitted, dd, e);
     if MOST_CURRENT < i {
-        return refuse(x, 11);
+        return Err(Refusal::Current);
     }
-    Answer {
-        answer: 0,
+    Ok(Rated {
         rating: i as u32,
         sheet: [
             p.rc, p.rs, l.ra, p.b, p.ys, p.yp, p.r, l.x, l.s, l.w, p.wd, dd, e,
         ],
-    }
+    })
 }

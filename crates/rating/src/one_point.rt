@@ -1,9 +1,10 @@
 // Arrangements 3 and 4: sheaths of lead bonded at one point, which have eddies alone.
 ghost use Rattle.std.specs.Prelude.{ℕ};
 ghost use Rattle.rating.specs.OnePoint.{one_point};
-ghost use Rattle.rating.specs.Laws.Steps.{Asks, PassesOnePoint, Loses};
+ghost use Rattle.rating.specs.Kind.{j_of};
+ghost use Rattle.rating.specs.Laws.Steps.{Asks, Passes, Loses};
 
-use super::arrangement::{Losses, Rules, armourless};
+use super::arrangement::{Formation, Losses, Rules, armourless};
 use super::case::number;
 use super::judge::Shared;
 use fields::{Case, SHEATH_DIAMETER, SHEATH_METAL, SPACING};
@@ -22,16 +23,21 @@ pub(crate) fn one_point_rules(x: Case) -> Rules
     }
 }
 
-// j is 1 in arrangement 3 and 2 in 4.
-pub(crate) fn one_point_losses(x: Case, j: u64, p: Shared) -> Losses
-    requires { PassesOnePoint j x p }
-    ensures { Loses (one_point j) x result }
+pub(crate) fn one_point_losses(x: Case, formation: Formation, p: Shared) -> Losses
+    requires { Passes (one_point (j_of formation)) x p }
+    ensures { Loses (one_point (j_of formation)) x result }
 {
     Losses {
         n: 1,
         ra: 0,
         x: 0,
-        s: eddy_loss(j, p.b, p.rs, number(x[SHEATH_DIAMETER]), number(x[SPACING])),
+        s: eddy_loss(
+            formation.j(),
+            p.b,
+            p.rs,
+            number(x[SHEATH_DIAMETER]),
+            number(x[SPACING]),
+        ),
         w: 0,
     }
 }

@@ -2,58 +2,36 @@
 // arrangement's is refused by 1.
 ghost use Rattle.std.specs.Prelude.{◌≡◌};
 ghost use Rattle.rating.specs.Laws.Steps.{Has};
-ghost use Rattle.rating.specs.Rate.{answer_of, refused, rate_of};
+ghost use Rattle.rating.specs.Rate.{answer_of, rate_of};
 
 use super::arrangement::{Kind, losses_of, rules_of};
-use super::judge::{Judgement, judge};
+use super::judge::judge;
 use super::load::load;
+use super::refusal::Refusal;
 use fields::{ARRANGEMENT, Case};
 
 // How many numbers the sheet has.
 pub const SHEET: usize = 13;
 
-// The answer, 0 or the refusal's number; the rating in mA; and the sheet: R', Rs, RA, B, ys, yp, R, X, S, W, Wd, dd, E.
-#[derive(Clone, Copy)]
-pub struct Answer {
-    pub answer: u32,
+// The rating in mA, and the sheet: R', Rs, RA, B, ys, yp, R, X, S, W, Wd, dd, E.
+#[derive(Clone, Copy, Debug, PartialEq, Eq)]
+pub struct Rated {
     pub rating: u32,
     pub sheet: [u64; SHEET],
 }
 
-pub(crate) fn refuse(x: Case, number: u32) -> Answer
-    requires { rate_of x ≡ refused number }
-    ensures { answer_of result ≡ rate_of x }
-{
-    Answer {
-        answer: number,
-        rating: 0,
-        sheet: [0; SHEET],
-    }
-}
-
 // A case that has the kind's arrangement.
-fn rate_in(x: Case, kind: Kind) -> Answer
+fn rate_in(x: Case, kind: Kind) -> Result<Rated, Refusal>
     requires { Has x kind }
     ensures { answer_of result ≡ rate_of x }
 {
-    match judge(x, rules_of(x, kind)) {
-        Judgement::Refused(number) => refuse(x, number),
-        Judgement::Passed(p) => load(x, p, losses_of(x, kind, p)),
-    }
+    let p = judge(x, rules_of(x, kind))?;
+    load(x, p, losses_of(x, kind, p))
 }
 
-pub fn rate(x: Case) -> Answer
+pub fn rate(x: Case) -> Result<Rated, Refusal>
     ensures { answer_of result ≡ rate_of x }
 {
-    let arrangement = x[ARRANGEMENT];
-    let kind = match arrangement {
-        1 => Kind::BothEnds,
-        2 => Kind::BothEnds,
-        3 => Kind::OnePoint(1),
-        4 => Kind::OnePoint(2),
-        5 => Kind::SlType,
-        6 => Kind::CommonSheath,
-        _ => return refuse(x, 1),
-    };
+    let kind = Kind::try_from(x[ARRANGEMENT])?;
     rate_in(x, kind)
 }

@@ -1,7 +1,8 @@
--- What stores leave in a slice of one or of three places, and the answer of an operation that writes. Assumes nothing.
-use Rattle.std.proofs.Common.{List, [], ◌∷◌, ◌≡◌, refl, sym, ℕ, arith, length, set, eq-eqb}
-use Rattle.book_laws.specs.Start.{Written}
-use Rattle.book.specs.declared.start.Written as Code
+-- What stores leave in a slice of one place, and the answer of an operation that writes. Assumes nothing.
+use Rattle.std.proofs.Common.{Err, List, Ok, [], arith, eq-eqb, length, refl, set, sym, ℕ, ◌∷◌, ◌≡◌}
+use Rattle.book_bytes.specs.Refusal.{number_of}
+use Rattle.book_bytes.specs.declared.refusal.Refusal.{Refusal}
+use Rattle.book_laws.specs.Start.{Written, unwritten}
 use Rattle.book.specs.Answers.{written_of}
 use Rattle.sheafdawn.specs.Calls.{book_call, written_call}
 
@@ -10,15 +11,13 @@ one_place [] n is_1 = absurd (omega arith)
 one_place (y ∷ []) n is_1 = refl
 one_place (y ∷ z ∷ ys) n is_1 = absurd (omega arith)
 
-pub three_places : (out : List ℕ) (p q r : ℕ) → length out ≡ 3 → set (set (set out 0 p) 1 q) 2 r ≡ p ∷ q ∷ r ∷ []
-three_places [] p q r is_3 = absurd (omega arith)
-three_places (x ∷ []) p q r is_3 = absurd (omega arith)
-three_places (x ∷ y ∷ []) p q r is_3 = absurd (omega arith)
-three_places (x ∷ y ∷ z ∷ []) p q r is_3 = refl
-three_places (x ∷ y ∷ z ∷ w ∷ ws) p q r is_3 = absurd (omega arith)
+module _ (b out : List ℕ) {w : Written} (bytes : List ℕ) (is_1 : length out ≡ 1) where
+  pub written : (used : ℕ) → written_of (Ok used) bytes ≡ w → book_call 0 bytes (set out 0 used) ≡ written_call b out w
+  unfolding written_call
+  written used is = rw (one_place out used is_1, ← is) (sym (simp (eq-eqb _ _ is_1)))
 
-pub written :
-    (b out : List ℕ) {r : Code.Written} {w : Written} {bytes m : List ℕ} → m ≡ r.used ∷ [] → length out ≡ 1 →
-    written_of r bytes ≡ w → book_call r.number bytes m ≡ written_call b out w
-unfolding written_call
-written b out wrote is_1 is = rw (wrote, ← is) (sym (simp (eq-eqb _ _ is_1)))
+  pub not_written :
+      (n : ℕ) (refusal : Refusal) → n ≡ number_of refusal → written_of (Err refusal) bytes ≡ w →
+      book_call n bytes (set out 0 0) ≡ written_call b out w
+  unfolding written_call unwritten
+  not_written n refusal number_is is = rw (one_place out 0 is_1, number_is, ← is) (sym (simp (eq-eqb _ _ is_1)))

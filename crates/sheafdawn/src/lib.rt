@@ -1,11 +1,11 @@
 // The proved functions under C's calling convention, for programs in C and Rust: numbers and slices
 // only, and no logic. A slice of a wrong length is refused by WRONG_LENGTH, and then nothing is
-// written. The header is include/sheafdawn.h, the Rust wrapper rust/sheafdawn.rs.
+// written. C has no Result: it gets 0 or the refusal's number, and zeros beside a refusal. The header
+// is include/sheafdawn.h, the Rust wrapper rust/sheafdawn.rs.
 #![tactic(auto)]
 
-mod copy;
-
 ghost use Rattle.std.specs.Prelude.{◌≡◌};
+ghost use Rattle.book_bytes.specs.Refusal.{named_by};
 ghost use Rattle.sheafdawn.specs.Calls.{call, book_call, rate_call, start_call, append_call, read_call, accept_call};
 
 use book::accept::accept;
@@ -13,7 +13,7 @@ use book::append::append;
 use book::read::read;
 use book::start::start;
 use book_bytes::layout::RECORD_FIELDS;
-use copy::{case_of, put_fields, put_sheet};
+use book_bytes::refusal::Refusal;
 use fields::WIDTH;
 use rating::rate::rate;
 
@@ -25,17 +25,23 @@ pub const WRONG_LENGTH: u32 = 4294967295;
 pub extern "C" fn sheafdawn_rate(case: &[u32], out: &mut [u64]) -> u32
     ensures { call result out.new ≡ rate_call case.now out.old }
 {
-    if case.len() != WIDTH {
+    let Some(case) = case.as_array() else {
         return WRONG_LENGTH;
-    }
+    };
     if out.len() != 14 {
         return WRONG_LENGTH;
     }
-    let a = rate(case_of(case));
-    let sheet = a.sheet;
-    out[0] = a.rating as u64;
-    put_sheet(out, sheet);
-    a.answer
+    match rate(*case) {
+        Ok(rated) => {
+            out[0] = u64::from(rated.rating);
+            out[1..].copy_from_slice(&rated.sheet);
+            0
+        }
+        Err(refusal) => {
+            out.fill(0);
+            u32::from(refusal)
+        }
+    }
 }
 
 // Starts a book after a note of `note` bytes. `out` gets one number, the used length. Answers 0 or the
@@ -48,9 +54,16 @@ pub extern "C" fn sheafdawn_start(buffer: &mut [u8], note: usize, out: &mut [usi
     if out.len() != 1 {
         return WRONG_LENGTH;
     }
-    let started = start(buffer, note);
-    out[0] = started.used;
-    started.number
+    match start(buffer, note) {
+        Ok(started) => {
+            out[0] = started;
+            0
+        }
+        Err(refusal) => {
+            out[0] = 0;
+            u32::from(refusal)
+        }
+    }
 }
 
 // Appends a case of 26 words to a book. `out` gets one number, the new used length. Answers 0 or the
@@ -65,15 +78,22 @@ pub extern "C" fn sheafdawn_append(
     ensures { book_call result buffer.new out.new
         ≡ append_call buffer.old used case.now out.old }
 {
-    if case.len() != WIDTH {
+    let Some(case) = case.as_array() else {
         return WRONG_LENGTH;
-    }
+    };
     if out.len() != 1 {
         return WRONG_LENGTH;
     }
-    let appended = append(buffer, used, case_of(case));
-    out[0] = appended.used;
-    appended.number
+    match append(buffer, used, *case) {
+        Ok(appended) => {
+            out[0] = appended;
+            0
+        }
+        Err(refusal) => {
+            out[0] = 0;
+            u32::from(refusal)
+        }
+    }
 }
 
 // Reads a record by its index from 0. `out` gets 28 words: the inputs, the answer and the rating.
@@ -85,10 +105,28 @@ pub extern "C" fn sheafdawn_read(buffer: &[u8], used: usize, index: usize, out: 
     if out.len() != RECORD_FIELDS {
         return WRONG_LENGTH;
     }
-    let found = read(buffer, used, index);
-    let fields = found.fields;
-    put_fields(out, fields);
-    found.number
+    match read(buffer, used, index) {
+        Ok(record) => {
+            out[..WIDTH].copy_from_slice(&record.case);
+            out[WIDTH] = record.answer;
+            out[WIDTH + 1] = record.rating;
+            0
+        }
+        Err(refusal) => {
+            out.fill(0);
+            u32::from(refusal)
+        }
+    }
+}
+
+// The record that a refusal names, from 1, or 0.
+fn named_by(refusal: Refusal) -> usize
+    ensures { result ≡ named_by refusal }
+{
+    match refusal {
+        Refusal::Disagrees(record) => record,
+        _ => 0,
+    }
 }
 
 // Accepts a book. `out` gets three numbers: the count, the note's length, and for 23 the first record
@@ -100,9 +138,14 @@ pub extern "C" fn sheafdawn_accept(buffer: &[u8], used: usize, out: &mut [usize]
     if out.len() != 3 {
         return WRONG_LENGTH;
     }
-    let a = accept(buffer, used);
-    out[0] = a.count;
-    out[1] = a.note;
-    out[2] = a.named;
-    a.number
+    match accept(buffer, used) {
+        Ok(accepted) => {
+            out.copy_from_slice(&[accepted.count, accepted.note, 0]);
+            0
+        }
+        Err(refusal) => {
+            out.copy_from_slice(&[0, 0, named_by(refusal)]);
+            u32::from(refusal)
+        }
+    }
 }

@@ -1,14 +1,12 @@
--- Laws of `fixed`: its two cases, and how the digits after the point come from a number with a one in front of them.
--- Assumes nothing.
+-- Laws of `fixed`: its two cases, and how the digits after the point come from a number with a one in front of them. Assumes nothing.
 use Rattle.std.proofs.Common.{List, [], ◌∷◌, ◌++◌, ◌≡◌, refl, sym, ap, ◌∙◌, ℕ, zero, suc, ◌+◌, ◌*◌, ◌/◌, ◌%◌, ◌^◌, ◌≤◌, ◌<◌, pow-suc}
-use Rattle.std.proofs.Common.{mod-lt, arith, lit<, length, length-append}
-use Rattle.std.proofs.Math.Nat.{one-le-pow}
+use Rattle.std.proofs.Common.{append_assoc, mod-lt, arith, lit<, lt_of_le_of_lt}
+use Rattle.std.proofs.Math.Nat.{one-le-pow, pow-le-pow_right}
+use Rattle.std.specs.Fmt.{decimal as written}
 use Rattle.decimals.specs.Decimal.{decimal, padded}
 use Rattle.decimals.proofs.Laws.Decimal.{decimal_small, decimal_large}
-use Rattle.splice.specs.Put.{Put}
-use Rattle.splice.specs.Splice.{splice}
+use Rattle.decimals.proofs.Laws.Library.{decimal_is_written}
 use Rattle.sheet_text.specs.Fixed.{fixed}
-use Rattle.splice.proofs.Laws.Splice.{splice_after, splice_again}
 
 -- a one in front keeps the zeros after it
 pub one_ahead : (d r : ℕ) → r < 10 ^ d → decimal (10 ^ d + r) ≡ 49 ∷ padded d r
@@ -36,44 +34,27 @@ unfolding fixed
 fixed_some zero x h = absurd (h refl)
 fixed_some (suc d) x h = refl
 
--- the digits before the point, those after it with a one in front, and the point in the place of the one
-module _ (l : List ℕ) (at d x one p end : ℕ) (l₁ l₂ l₃ : List ℕ) (some : d ≡ 0 → ⊥) (power : one ≡ 10 ^ d)
-    (room : at + length (decimal (x / one)) ≤ length l) (same : length l₁ ≡ length l)
-    (before : Put l at (decimal (x / one)) l₁ p) (behind : Put l₁ p (decimal (one + x % one)) l₂ end)
-    (point : l₃ ≡ splice l₂ p (46 ∷ [])) where
-  w : List ℕ
-  w = decimal (x / one)
+-- a power of ten with at most 16 zeros
+module _ (d one : ℕ) (power : one ≡ 10 ^ d) where
+  pub positive : 0 < one
+  positive = rw power (one-le-pow d 10 (lit< tt))
 
-  after : List ℕ
-  after = padded d (x % 10 ^ d)
+  module _ (few : d ≤ 16) (x : ℕ) where
+    pub sum_small : one + x % one ≤ 20000000000000000
+    sum_small =
+        let small : one ≤ 10000000000000000 = rw power (pow-le-pow_right (lit< tt) {i = d} {j = 16} few) in
+        omega (arith, small, mod-lt x positive)
 
-  ahead : decimal (one + x % one) ≡ 49 ∷ after
-  unfolding after
-  ahead =
-      ap (λ (k : ℕ). decimal (k + x % k)) power ∙ one_ahead d (x % 10 ^ d) (mod-lt x (one-le-pow d 10 (lit< tt)))
+    -- what the library writes of the one and the digits after the point
+    pub written_ahead : written (one + x % one) ≡ 49 ∷ padded d (x % one)
+    written_ahead =
+        sym (decimal_is_written (one + x % one) (lt_of_le_of_lt sum_small (lit< tt)))
+        ∙ rw power (one_ahead d (x % 10 ^ d) (mod-lt x (one-le-pow d 10 (lit< tt))))
 
-  whole : w ++ 46 ∷ after ≡ fixed d x
-  unfolding w after
-  whole = ap (λ (k : ℕ). decimal (x / k) ++ 46 ∷ padded d (x % 10 ^ d)) power ∙ sym (fixed_some d x some)
-
-  ends : end ≡ at + length (fixed d x)
-  unfolding w
-  ends =
-      let q : length (decimal (one + x % one)) ≡ length (49 ∷ after) = ap length ahead in
-      let t : length (w ++ 46 ∷ after) ≡ length w + length (46 ∷ after) = length-append w (46 ∷ after) in
-      let f : length (w ++ 46 ∷ after) ≡ length (fixed d x) = ap length whole in
-      omega (arith, before.place_is, behind.place_is)
-
-  written : l₃ ≡ splice l at (fixed d x)
-  unfolding w
-  written =
-      point
-      ∙ ap (λ (t : List ℕ). splice t p (46 ∷ [])) (behind.list_is ∙ ap (λ (v : List ℕ). splice l₁ p v) ahead)
-      ∙ splice_again l₁ p 49 46 after (omega (arith, before.place_is))
-      ∙ ap (λ (t : List ℕ). splice t p (46 ∷ after)) before.list_is
-      ∙ ap (λ (k : ℕ). splice (splice l at w) k (46 ∷ after)) before.place_is
-      ∙ splice_after l at w (46 ∷ after) (omega arith)
-      ∙ ap (splice l at) whole
-
-  pub point_put : Put l at (fixed d x) l₃ end
-  point_put = record { place_is = ends; list_is = written }
+  -- the digits before the point, the point, and those after it
+  pub pointed : (text : List ℕ) (x : ℕ) → (d ≡ 0 → ⊥)
+      → ((text ++ decimal (x / one)) ++ (46 ∷ [])) ++ padded d (x % one) ≡ text ++ fixed d x
+  pointed text x some =
+      append_assoc (text ++ decimal (x / one)) (46 ∷ []) (padded d (x % one))
+      ∙ append_assoc text (decimal (x / one)) (46 ∷ padded d (x % one))
+      ∙ ap (λ (t : List ℕ). text ++ t) (rw power (sym (fixed_some d x some)))

@@ -1,3 +1,3 @@
 -- How a work sheet writes its numbers. Assumes nothing.
+pub mod Fields
 pub mod Fixed
-pub mod Laws

@@ -1,110 +1,336 @@
 // The fields of a case, a line for each, in the units that a person reads (docs/FIELDS.md has the
 // units of the fields themselves).
-ghost use Rattle.std.specs.Prelude.{◌≤◌, length};
+ghost use Rattle.std.specs.Prelude.{◌≡◌};
+ghost use Rattle.sheet_text.specs.Fields.{value_text};
 
-use crate::codes::{COMMON_SHEATH, SL_TYPE, put_words};
-use crate::fixed::{Value, complement, plain};
-use crate::line::put_line;
-use crate::rows::put_text;
-use fields::{
-    AMBIENT_TEMPERATURE, ARMOUR_DIAMETER, ARMOUR_METAL, ARMOUR_RESISTANCE, ARMOUR_TEMPERATURE,
-    ARRANGEMENT, AXIS_DISTANCE, CONDUCTOR, CONDUCTOR_RESISTANCE, CONDUCTOR_TEMPERATURE, Case,
-    LOSS_FACTOR, SHEATH_METAL, SHEATH_RESISTANCE, SHEATH_TEMPERATURE, T1, T2, T3, T4, VOLTAGE,
-    WIDTH,
-};
+use crate::codes::{ALL, ARRANGEMENTS, COMMON_SHEATH, CONDUCTORS, METALS, SL_TYPE, words_of};
+use crate::fixed::{Value, put_fixed, put_signed};
+use crate::line::{Label, put_line};
+use arrayvec::ArrayString;
+use fields::{ARRANGEMENT, Case, WIDTH};
+use std::fmt;
 
-// A row for each field: the symbol in 13 bytes, then the unit, the meaning and the limits.
-const LABELS: [u8; 1312] = *b"  arrangement  [1 to 6]
-  conductor    [1 to 8]
-  f            Hz        frequency [10 to 65]
-  theta_c      deg C     conductor [40 to 250]
-  theta_a      deg C     ambient [-40 to 60]
-  R0           uohm/m    conductor, d.c., at 20 deg C [5 to 20000]
-  dc           mm        conductor diameter [1 to 100]
-  s            mm        spacing of the axes [1 to 10000]
-  ds           mm        diameter over conductor screen [1 to 200]
-  Di           mm        diameter over insulation [1 to 300]
-  U0           V         voltage to earth [0 to 300000]
-  e                      relative permittivity [1 to 8]
-  t                      loss factor [0.00001 to 0.1]
-  d            mm        mean sheath diameter [1 to 500]
-  sheath       [1 to 6]
-  Rs0          uohm/m    sheath, at 20 deg C [1 to 20000]
-  theta_s      deg C     sheath [-40 to 250]
-  armour       [1 to 6]
-  RA0          uohm/m    armour, a.c., at 20 deg C [1 to 20000]
-  theta_A      deg C     armour [-40 to 250]
-  c            mm        core axis to cable axis [1 to 500]
-  dA           mm        mean armour diameter [1 to 500]
-  T1           K.m/W     conductor to sheath [0.001 to 10]
-  T2           K.m/W     sheath to armour [0 to 10]
-  T3           K.m/W     outer covering [0 to 10]
-  T4           K.m/W     surface to ambient [0.01 to 20]
-";
+// What a field is: a number, one in two's complement, or a code, with what its numbers stand for.
+#[derive(Clone, Copy)]
+enum Form {
+    Plain,
+    Signed,
+    Code(&'static [&'static str]),
+}
 
-// The column's bytes from the point on.
-const AFTER_POINT: usize = 7;
+// A row of the sheet, and the arrangements that have it: only the SL type has armour, and c is the
+// distance of a core's axis from that of a cable with three cores.
+struct Field {
+    label: Label,
+    form: Form,
+    arrangements: &'static [u32],
+}
 
-// How many decimals field i has in its unit. Of the fields with two most are lengths and
-// temperatures.
-fn decimals(i: usize) -> usize
-    ensures { result ≤ 6 }
+// The digits of the column after the point.
+const DIGITS: usize = 6;
+
+// The rows, in the order of a case's fields. The meanings end in the limits.
+const FIELDS: [Field; WIDTH] = [
+    Field {
+        label: Label {
+            symbol: "  arrangement",
+            unit: "[1 to 6]",
+            meaning: "",
+            decimals: 0,
+        },
+        form: Form::Code(&ARRANGEMENTS),
+        arrangements: &ALL,
+    },
+    Field {
+        label: Label {
+            symbol: "  conductor",
+            unit: "[1 to 8]",
+            meaning: "",
+            decimals: 0,
+        },
+        form: Form::Code(&CONDUCTORS),
+        arrangements: &ALL,
+    },
+    Field {
+        label: Label {
+            symbol: "  f",
+            unit: "Hz",
+            meaning: "frequency [10 to 65]",
+            decimals: 2,
+        },
+        form: Form::Plain,
+        arrangements: &ALL,
+    },
+    Field {
+        label: Label {
+            symbol: "  theta_c",
+            unit: "deg C",
+            meaning: "conductor [40 to 250]",
+            decimals: 2,
+        },
+        form: Form::Signed,
+        arrangements: &ALL,
+    },
+    Field {
+        label: Label {
+            symbol: "  theta_a",
+            unit: "deg C",
+            meaning: "ambient [-40 to 60]",
+            decimals: 2,
+        },
+        form: Form::Signed,
+        arrangements: &ALL,
+    },
+    Field {
+        label: Label {
+            symbol: "  R0",
+            unit: "uohm/m",
+            meaning: "conductor, d.c., at 20 deg C [5 to 20000]",
+            decimals: 3,
+        },
+        form: Form::Plain,
+        arrangements: &ALL,
+    },
+    Field {
+        label: Label {
+            symbol: "  dc",
+            unit: "mm",
+            meaning: "conductor diameter [1 to 100]",
+            decimals: 2,
+        },
+        form: Form::Plain,
+        arrangements: &ALL,
+    },
+    Field {
+        label: Label {
+            symbol: "  s",
+            unit: "mm",
+            meaning: "spacing of the axes [1 to 10000]",
+            decimals: 2,
+        },
+        form: Form::Plain,
+        arrangements: &ALL,
+    },
+    Field {
+        label: Label {
+            symbol: "  ds",
+            unit: "mm",
+            meaning: "diameter over conductor screen [1 to 200]",
+            decimals: 2,
+        },
+        form: Form::Plain,
+        arrangements: &ALL,
+    },
+    Field {
+        label: Label {
+            symbol: "  Di",
+            unit: "mm",
+            meaning: "diameter over insulation [1 to 300]",
+            decimals: 2,
+        },
+        form: Form::Plain,
+        arrangements: &ALL,
+    },
+    Field {
+        label: Label {
+            symbol: "  U0",
+            unit: "V",
+            meaning: "voltage to earth [0 to 300000]",
+            decimals: 0,
+        },
+        form: Form::Plain,
+        arrangements: &ALL,
+    },
+    Field {
+        label: Label {
+            symbol: "  e",
+            unit: "",
+            meaning: "relative permittivity [1 to 8]",
+            decimals: 2,
+        },
+        form: Form::Plain,
+        arrangements: &ALL,
+    },
+    Field {
+        label: Label {
+            symbol: "  t",
+            unit: "",
+            meaning: "loss factor [0.00001 to 0.1]",
+            decimals: 5,
+        },
+        form: Form::Plain,
+        arrangements: &ALL,
+    },
+    Field {
+        label: Label {
+            symbol: "  d",
+            unit: "mm",
+            meaning: "mean sheath diameter [1 to 500]",
+            decimals: 2,
+        },
+        form: Form::Plain,
+        arrangements: &ALL,
+    },
+    Field {
+        label: Label {
+            symbol: "  sheath",
+            unit: "[1 to 6]",
+            meaning: "",
+            decimals: 0,
+        },
+        form: Form::Code(&METALS),
+        arrangements: &ALL,
+    },
+    Field {
+        label: Label {
+            symbol: "  Rs0",
+            unit: "uohm/m",
+            meaning: "sheath, at 20 deg C [1 to 20000]",
+            decimals: 3,
+        },
+        form: Form::Plain,
+        arrangements: &ALL,
+    },
+    Field {
+        label: Label {
+            symbol: "  theta_s",
+            unit: "deg C",
+            meaning: "sheath [-40 to 250]",
+            decimals: 2,
+        },
+        form: Form::Signed,
+        arrangements: &ALL,
+    },
+    Field {
+        label: Label {
+            symbol: "  armour",
+            unit: "[1 to 6]",
+            meaning: "",
+            decimals: 0,
+        },
+        form: Form::Code(&METALS),
+        arrangements: &[SL_TYPE],
+    },
+    Field {
+        label: Label {
+            symbol: "  RA0",
+            unit: "uohm/m",
+            meaning: "armour, a.c., at 20 deg C [1 to 20000]",
+            decimals: 3,
+        },
+        form: Form::Plain,
+        arrangements: &[SL_TYPE],
+    },
+    Field {
+        label: Label {
+            symbol: "  theta_A",
+            unit: "deg C",
+            meaning: "armour [-40 to 250]",
+            decimals: 2,
+        },
+        form: Form::Signed,
+        arrangements: &[SL_TYPE],
+    },
+    Field {
+        label: Label {
+            symbol: "  c",
+            unit: "mm",
+            meaning: "core axis to cable axis [1 to 500]",
+            decimals: 2,
+        },
+        form: Form::Plain,
+        arrangements: &[SL_TYPE, COMMON_SHEATH],
+    },
+    Field {
+        label: Label {
+            symbol: "  dA",
+            unit: "mm",
+            meaning: "mean armour diameter [1 to 500]",
+            decimals: 2,
+        },
+        form: Form::Plain,
+        arrangements: &[SL_TYPE],
+    },
+    Field {
+        label: Label {
+            symbol: "  T1",
+            unit: "K.m/W",
+            meaning: "conductor to sheath [0.001 to 10]",
+            decimals: 6,
+        },
+        form: Form::Plain,
+        arrangements: &ALL,
+    },
+    Field {
+        label: Label {
+            symbol: "  T2",
+            unit: "K.m/W",
+            meaning: "sheath to armour [0 to 10]",
+            decimals: 6,
+        },
+        form: Form::Plain,
+        arrangements: &ALL,
+    },
+    Field {
+        label: Label {
+            symbol: "  T3",
+            unit: "K.m/W",
+            meaning: "outer covering [0 to 10]",
+            decimals: 6,
+        },
+        form: Form::Plain,
+        arrangements: &ALL,
+    },
+    Field {
+        label: Label {
+            symbol: "  T4",
+            unit: "K.m/W",
+            meaning: "surface to ambient [0.01 to 20]",
+            decimals: 6,
+        },
+        form: Form::Plain,
+        arrangements: &ALL,
+    },
+];
+
+// A field in its unit.
+fn value_of(field: &Field, x: u32) -> Value
+    ensures { result.bytes ≡ value_text field.now.form field.now.label.decimals x }
 {
-    match i {
-        ARRANGEMENT | CONDUCTOR | VOLTAGE | SHEATH_METAL | ARMOUR_METAL => 0,
-        CONDUCTOR_RESISTANCE | SHEATH_RESISTANCE | ARMOUR_RESISTANCE => 3,
-        LOSS_FACTOR => 5,
-        T1 | T2 | T3 | T4 => 6,
-        _ => 2,
+    let decimals = field.label.decimals;
+    let mut value = Value::new();
+    match field.form {
+        Form::Signed => put_signed(&mut value, i64::from(x.cast_signed()), decimals),
+        Form::Plain | Form::Code(_) => put_fixed(&mut value, u64::from(x), decimals),
     }
+    value
 }
 
-// Field i: the temperatures are in two's complement.
-fn value(i: usize, x: u32) -> Value {
-    match i {
-        CONDUCTOR_TEMPERATURE | AMBIENT_TEMPERATURE | SHEATH_TEMPERATURE | ARMOUR_TEMPERATURE => {
-            complement(x)
-        }
-        _ => plain(x),
+// A field's label, where what a code stands for is its meaning.
+fn label_of(field: &Field, x: u32) -> Label {
+    let mut label = field.label;
+    if let Form::Code(words) = field.form {
+        label.meaning = words_of(words, x);
     }
+    label
 }
 
-// Whether an arrangement has field i: only the SL type has armour, and c is the distance of a core's
-// axis from that of a cable with three cores.
-fn has(arrangement: u32, i: usize) -> bool {
-    match i {
-        ARMOUR_METAL | ARMOUR_RESISTANCE | ARMOUR_TEMPERATURE | ARMOUR_DIAMETER => {
-            arrangement == SL_TYPE
-        }
-        AXIS_DISTANCE => (arrangement == SL_TYPE) | (arrangement == COMMON_SHEATH),
-        _ => true,
-    }
-}
-
-// Field i, where it is shown.
-fn put_field(out: &mut [u8], at: usize, i: usize, x: u32, shown: bool) -> usize
-    requires { at ≤ length out.old }
-    ensures { result ≤ length out.old }
-{
-    if !shown {
-        return at;
-    }
-    let at = put_line(out, at, &LABELS, i, value(i, x), decimals(i), AFTER_POINT);
-    let at = put_words(out, at, i, x);
-    put_text(out, at, b"\n")
+fn put_field<const N: usize>(out: &mut ArrayString<N>, field: &Field, x: u32) -> fmt::Result {
+    put_line(
+        out,
+        &label_of(field, x),
+        value_of(field, x).as_str(),
+        DIGITS,
+    )
 }
 
 // The fields that the case's arrangement has, or all of them.
-pub fn put_fields(out: &mut [u8], at: usize, x: Case, all: bool) -> usize
-    requires { at ≤ length out.old }
-    ensures { result ≤ length out.old }
-{
+pub fn put_fields<const N: usize>(out: &mut ArrayString<N>, x: Case, all: bool) -> fmt::Result {
     let arrangement = x[ARRANGEMENT];
-    let mut at = at;
-    let mut i = 0;
-    while i < WIDTH {
-        at = put_field(out, at, i, x[i], all | has(arrangement, i));
-        i += 1;
+    for (field, value) in FIELDS.iter().zip(x) {
+        if all || field.arrangements.contains(&arrangement) {
+            put_field(out, field, value)?;
+        }
     }
-    at
+    Ok(())
 }

@@ -9,25 +9,26 @@ mod fixed;
 mod line;
 mod numbers;
 mod refusals;
-mod rows;
 mod sheet;
 
-ghost use Rattle.std.specs.Prelude.{◌≤◌, length};
-
+use arrayvec::ArrayString;
 use fields::Case;
-use rating::rate::Answer;
+use rating::rate::Rated;
+use rating::refusal::Refusal;
 use sheet::put_sheet;
 
 // More than any work sheet has.
 pub const ROOM: usize = 8192;
 
-// Writes the work sheet at the front of a buffer and answers its length; in a buffer that is too
-// small it writes nothing.
-pub fn work_sheet(out: &mut [u8], x: Case, r: Answer) -> usize
-    ensures { result ≤ length out.old }
-{
-    if out.len() < ROOM {
-        return 0;
+// Appends the work sheet; to a text with less room than any sheet might need it appends nothing.
+pub fn work_sheet<const N: usize>(
+    out: &mut ArrayString<N>,
+    x: Case,
+    rated: Result<Rated, Refusal>,
+) {
+    if out.remaining_capacity() < ROOM {
+        return;
     }
-    put_sheet(out, 0, x, r)
+    // Nothing is left to do about a sheet that needs more room still: what fits of it stands there.
+    let _ = put_sheet(out, x, rated);
 }

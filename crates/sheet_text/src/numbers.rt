@@ -1,84 +1,161 @@
 // The numbers of a rated case, a line for each, in the units that a person reads (docs/RATING.md has
 // their order and what they mean).
-ghost use Rattle.std.specs.Prelude.{◌≤◌, length};
+use crate::fixed::{Value, put_fixed};
+use crate::line::{Label, put_line};
+use arrayvec::ArrayString;
+use rating::rate::SHEET;
+use std::fmt;
 
-use crate::fixed::Value;
-use crate::line::put_line;
-use crate::rows::put_text;
-
-// A row for each number: the symbol in 13 bytes, then the unit and the meaning.
-const LABELS: [u8; 615] = *b"  R'           uohm/m    conductor, d.c., at theta_c
-  Rs           uohm/m    sheath, at theta_s
-  RA           uohm/m    armour, a.c., at theta_A
-  B            uohm/m    4 pi f / 10^7
-  ys                     skin effect factor
-  yp                     proximity effect factor
-  R            uohm/m    conductor, a.c., at theta_c
-  X            uohm/m    sheath reactance
-  S            uohm/m    sheath loss / I^2
-  W            uohm/m    armour loss / I^2
-  Wd           W/m       dielectric loss of a core
-  dd           K         rise by the dielectric loss
-  E            K/A^2     rise by the current / I^2
-";
-
-// Numbers of a sheet that are told apart, and how many there are.
-const RA: usize = 2;
-
-const YS: usize = 4;
-
-const YP: usize = 5;
-
-const W: usize = 9;
-
-const WD: usize = 10;
-
-const DD: usize = 11;
-
-const E: usize = 12;
-
-const NUMBERS: usize = 13;
-
-// The column's bytes from the point on.
-pub(crate) const AFTER_POINT: usize = 17;
-
-// How many decimals number i has in its unit.
-fn decimals(i: usize) -> usize
-    ensures { result ≤ 16 }
-{
-    match i {
-        YS | YP | WD => 12,
-        DD => 9,
-        E => 16,
-        _ => 10,
-    }
+// A row of the sheet, and whether it is one that a cable without armour lacks.
+struct Number {
+    label: Label,
+    of_armour: bool,
 }
 
-// Number i, where it is not the armour's RA or W or these are asked for.
-fn put_number(out: &mut [u8], at: usize, i: usize, x: u64, armour: bool) -> usize
-    requires { at ≤ length out.old }
-    ensures { result ≤ length out.old }
-{
-    if !armour & ((i == RA) | (i == W)) {
-        return at;
-    }
-    let v = Value {
-        negative: false,
-        size: x,
-    };
-    let at = put_line(out, at, &LABELS, i, v, decimals(i), AFTER_POINT);
-    put_text(out, at, b"\n")
+// The digits of the column after the point.
+pub(crate) const DIGITS: usize = 16;
+
+// The rows, in the order of the sheet's numbers.
+const NUMBERS: [Number; SHEET] = [
+    Number {
+        label: Label {
+            symbol: "  R'",
+            unit: "uohm/m",
+            meaning: "conductor, d.c., at theta_c",
+            decimals: 10,
+        },
+        of_armour: false,
+    },
+    Number {
+        label: Label {
+            symbol: "  Rs",
+            unit: "uohm/m",
+            meaning: "sheath, at theta_s",
+            decimals: 10,
+        },
+        of_armour: false,
+    },
+    Number {
+        label: Label {
+            symbol: "  RA",
+            unit: "uohm/m",
+            meaning: "armour, a.c., at theta_A",
+            decimals: 10,
+        },
+        of_armour: true,
+    },
+    Number {
+        label: Label {
+            symbol: "  B",
+            unit: "uohm/m",
+            meaning: "4 pi f / 10^7",
+            decimals: 10,
+        },
+        of_armour: false,
+    },
+    Number {
+        label: Label {
+            symbol: "  ys",
+            unit: "",
+            meaning: "skin effect factor",
+            decimals: 12,
+        },
+        of_armour: false,
+    },
+    Number {
+        label: Label {
+            symbol: "  yp",
+            unit: "",
+            meaning: "proximity effect factor",
+            decimals: 12,
+        },
+        of_armour: false,
+    },
+    Number {
+        label: Label {
+            symbol: "  R",
+            unit: "uohm/m",
+            meaning: "conductor, a.c., at theta_c",
+            decimals: 10,
+        },
+        of_armour: false,
+    },
+    Number {
+        label: Label {
+            symbol: "  X",
+            unit: "uohm/m",
+            meaning: "sheath reactance",
+            decimals: 10,
+        },
+        of_armour: false,
+    },
+    Number {
+        label: Label {
+            symbol: "  S",
+            unit: "uohm/m",
+            meaning: "sheath loss / I^2",
+            decimals: 10,
+        },
+        of_armour: false,
+    },
+    Number {
+        label: Label {
+            symbol: "  W",
+            unit: "uohm/m",
+            meaning: "armour loss / I^2",
+            decimals: 10,
+        },
+        of_armour: true,
+    },
+    Number {
+        label: Label {
+            symbol: "  Wd",
+            unit: "W/m",
+            meaning: "dielectric loss of a core",
+            decimals: 12,
+        },
+        of_armour: false,
+    },
+    Number {
+        label: Label {
+            symbol: "  dd",
+            unit: "K",
+            meaning: "rise by the dielectric loss",
+            decimals: 9,
+        },
+        of_armour: false,
+    },
+    Number {
+        label: Label {
+            symbol: "  E",
+            unit: "K/A^2",
+            meaning: "rise by the current / I^2",
+            decimals: 16,
+        },
+        of_armour: false,
+    },
+];
+
+pub(crate) fn put_number<const N: usize>(
+    out: &mut ArrayString<N>,
+    label: &Label,
+    x: u64,
+) -> fmt::Result {
+    let mut value = Value::new();
+    put_fixed(&mut value, x, label.decimals);
+    put_line(out, label, value.as_str(), DIGITS)
 }
 
-pub fn put_numbers(out: &mut [u8], at: usize, sheet: [u64; NUMBERS], armour: bool) -> usize
-    requires { at ≤ length out.old }
-    ensures { result ≤ length out.old }
-{
-    let mut at = at;
-    let mut i = 0;
-    while i < NUMBERS {
-        at = put_number(out, at, i, sheet[i], armour);
-        i += 1;
+// The sheet, with the armour's numbers or without them.
+pub fn put_numbers<const N: usize>(
+    out: &mut ArrayString<N>,
+    sheet: [u64; SHEET],
+    armour: bool,
+) -> fmt::Result {
+    for (number, x) in NUMBERS.iter().zip(sheet) {
+        if armour || !number.of_armour {
+            put_number(out, &number.label, x)?;
+        }
     }
-    at
+    Ok(())
 }

@@ -16,11 +16,11 @@ small? x = go (ltb x 10) refl
     go true e = inl (ltb-true x 10 e)
     go false e = inr (ltb-false x 10 e)
 
-digits_small : (n x : ℕ) → x < 10 → digits (suc n) x ≡ (x + 48) ∷ []
+pub digits_small : (n x : ℕ) → x < 10 → digits (suc n) x ≡ (x + 48) ∷ []
 unfolding digits
 digits_small n x h = simp (lt-ltb x 10 h)
 
-digits_large : (n x : ℕ) → 10 ≤ x → digits (suc n) x ≡ digits n (x / 10) ++ ((x % 10 + 48) ∷ [])
+pub digits_large : (n x : ℕ) → 10 ≤ x → digits (suc n) x ≡ digits n (x / 10) ++ ((x % 10 + 48) ∷ [])
 unfolding digits
 digits_large n x h = simp (le-ltb x 10 h)
 

@@ -1,9 +1,6 @@
--- `decimals::put_number` meets its contract: the blank and the digits, at most 20, are joined.
--- Assumes nothing.
-use Rattle.std.proofs.Common.{List, [], ap, append-nil, arith, sym, ℕ, ◌++◌, ◌∷◌, ◌≡◌}
-use Rattle.splice.proofs.Laws.Put.{put_as, put_then}
+-- `decimals::put_number` meets its contract: the blank and the digits are what a number on a line is. Assumes nothing.
+use Rattle.std.proofs.Common.{[], ap, append-nil, append_assoc, arith, length, length-append, lit<, sym, List, ◌++◌, ◌∙◌, ◌∷◌, ◌≡◌, ℕ}
 use Rattle.decimals.specs.Decimal.{decimal, spaced}
-use Rattle.decimals.proofs.Laws.Decimal.{count_64}
 use Rattle.decimals.proofs.put_number.Goals as goal
 
 one : (x : ℕ) → (32 ∷ []) ++ decimal x ≡ spaced (x ∷ [])
@@ -11,6 +8,15 @@ unfolding spaced
 one x = ap (λ (t : List ℕ). 32 ∷ t) (sym (append-nil (decimal x)))
 
 pub returns : goal.returns
-returns c = let x = c.args.x in
-    let both = put_then _ _ (32 ∷ []) (decimal x) (omega arith) c.put_byte-digits.ensures c.put_decimal.ensures in
-    record { put = put_as _ _ (one x) both; within = omega (arith, count_64 x c.ranges.x.fits) }
+returns g c =
+    let text = c.args.out.now.bytes in
+    let digits = decimal c.args.x in
+    let blank : c.push.new.self.bytes ≡ text ++ 32 ∷ [] = c.push.ensures.ascii (lit< tt) in
+    record {
+      text =
+          c.put_decimal.ensures.text
+          ∙ ap (λ (t : List ℕ). t ++ digits) blank
+          ∙ append_assoc text (32 ∷ []) digits
+          ∙ ap (λ (t : List ℕ). text ++ t) (one c.args.x);
+      within = omega (arith, c.put_decimal.ensures.within, ap length blank, length-append text (32 ∷ []));
+    }

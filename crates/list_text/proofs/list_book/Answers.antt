@@ -1,43 +1,67 @@
--- `list_text::list_book` meets its contract. The count of a book within 65536 bytes leaves room for its lines. Assumes nothing.
-use Rattle.std.proofs.Common.{List, ap, arith, length, subst, sym, zero-add, ℕ, ◌∙◌, ◌≡◌, ◌≤◌}
-use Rattle.book.specs.declared.accept.Acceptance.{Acceptance}
+-- `list_text::list_book` meets its contract: the first line and the records, or the refusal. The count of a book within 65536 bytes
+-- leaves room for its lines. Assumes nothing.
+use Rattle.std.proofs.Common.{append_assoc, ap, arith, eqb, false, length, length-append, refl, rules, subst, sym, List, Ok, Err, ℕ, ◌++◌, ◌+◌, ◌∙◌, ◌≡◌, ◌≤◌}
+use Rattle.book.specs.declared.accept.Accepted.{Accepted}
 use Rattle.book.specs.Answers.{acceptance_of}
+use Rattle.book_bytes.specs.declared.refusal.Refusal.{Refusal}
+use Rattle.book_bytes.specs.declared.refusal.Refusal.TheVariants.{Length, Mark, Trailer, Disagrees, Space, Full, Index}
+use Rattle.book_bytes.specs.Refusal.{named_by, number_of}
+use Rattle.book_laws.specs.Accept.{unaccepted}
 use Rattle.book_laws.specs.Book.{accept_of}
 use Rattle.book_laws.proofs.Laws.Accept.{Counted, count_within}
 use Rattle.book_laws.specs.Layout.{rbk1}
-use Rattle.splice.specs.Splice.{splice}
-use Rattle.splice.specs.Put.{Put}
-use Rattle.splice.proofs.Laws.Put.{put_as}
-use Rattle.splice.proofs.Laws.Splice.{splice_length}
-use Rattle.list_text.specs.Listing.{listing_for, listing_of}
+use Rattle.list_text.specs.Listing.{record_lines, book_line, refusal_line, listing_for, listing_of}
 use Rattle.list_text.proofs.list_book.Goals as goal
 
-room : (b : List ℕ) (used : ℕ) {a : Acceptance} → acceptance_of a ≡ accept_of b used → Counted rbk1 b (acceptance_of a)
-room b used is = subst (Counted rbk1 b) (sym is) (count_within rbk1 b used)
+-- what was appended is as long as the text has grown
+grown : (text more : List ℕ) {all : List ℕ} → all ≡ text ++ more → length all ≤ length text + 65536 → length more ≤ 65536
+grown text more is h = omega (arith, ap length is, length-append text more)
 
--- a listing that has room leaves the buffer as long
-as_long : (l vs : List ℕ) {m : List ℕ} {r : ℕ} → Put l 0 vs m r → r ≤ length l → length m ≡ length l
-as_long l vs put h = ap length put.list_is ∙ splice_length l 0 vs (omega (arith, put.place_is))
+some_number : (r : Refusal) → eqb (number_of r) 0 ≡ false
+some_number Length = refl
+some_number Mark = refl
+some_number Trailer = refl
+some_number (Disagrees k) = refl
+some_number Space = refl
+some_number Full = refl
+some_number Index = refl
 
-listed :
-    (b : List ℕ) (used : ℕ) (l : List ℕ) {a : Acceptance} {m : List ℕ} {r : ℕ} → acceptance_of a ≡ accept_of b used →
-    Put l 0 (listing_for rbk1 b (acceptance_of a)) m r →
-    (r ≡ length (listing_of b used)) × (m ≡ splice l 0 (listing_of b used))
-unfolding listing_of
-listed b used l is put =
-    let whole = put_as l 0 (ap (listing_for rbk1 b) is) put in (whole.place_is ∙ zero-add _, whole.list_is)
+module _ (b : List ℕ) (used : ℕ) where
+  counted : {a : Accepted} → acceptance_of (Ok a) ≡ accept_of b used → Counted rbk1 b (acceptance_of (Ok a))
+  counted is = subst (Counted rbk1 b) (sym is) (count_within rbk1 b used)
 
-pub put_listing-requires : goal.put_listing-requires
-put_listing-requires c =
-    let counted = room _ _ c.accept-a.ensures in
-    record { room = omega (arith, counted.within); inside = counted.within; count_most = counted.most }
+  of_book : (a : Accepted) → acceptance_of (Ok a) ≡ accept_of b used →
+      book_line a.count ++ record_lines rbk1 b a.note a.count ≡ listing_of b used
+  unfolding listing_of listing_for
+  of_book a is = ap (listing_for rbk1 b) is
 
-pub returns : goal.returns
-returns c =
-    let is = c.accept-a.ensures in
-    let listing = c.put_listing.ensures in
-    let short : c.put_listing.result ≤ 65536 = omega (arith, listing.within, (room _ _ is).within) in
-    record {
-      value = listed _ _ _ is listing.put;
-      upper_bound = (short, omega (arith, as_long _ _ listing.put (omega (arith, short))));
-    }
+  of_refusal : (r : Refusal) → acceptance_of (Err r) ≡ accept_of b used → refusal_line (number_of r) (named_by r) ≡ listing_of b used
+  unfolding listing_of listing_for unaccepted
+  of_refusal r is = sym (simp (some_number r)) ∙ ap (listing_for rbk1 b) is
+
+pub put_records-requires : goal.put_records-requires
+put_records-requires g c =
+    let within = (counted _ _ c.in-Ok.ensures).within in (search rules, (omega (arith, within, c.put_line.ensures.within), within))
+
+pub returns-in-Ok : goal.returns-in-Ok
+unfolding book_line
+returns-in-Ok g c =
+    let a = c.in-Ok.accepted in
+    let text = c.args.out.now.bytes in
+    let lines = record_lines rbk1 c.args.book.now a.note a.count in
+    let listed : c.put_records.new.out.bytes ≡ text ++ listing_of c.args.book.now c.args.used =
+    c.put_records.ensures.text
+    ∙ ap (λ (t : List ℕ). t ++ lines) c.put_line.ensures.text
+    ∙ append_assoc text (book_line a.count) lines
+    ∙ ap (λ (t : List ℕ). text ++ t) (of_book _ _ a c.in-Ok.ensures)
+    in
+    let within = (counted _ _ c.in-Ok.ensures).within in
+    record { value = listed; upper_bound = grown text _ listed (omega (arith, within, c.put_records.ensures.within, c.put_line.ensures.within)) }
+
+pub returns-in-Err : goal.returns-in-Err
+returns-in-Err g c =
+    let text = c.args.out.now.bytes in
+    let listed : c.put_refusal.new.out.bytes ≡ text ++ listing_of c.args.book.now c.args.used =
+    c.put_refusal.ensures.text ∙ ap (λ (t : List ℕ). text ++ t) (of_refusal _ _ c.in-Err.refusal c.in-Err.ensures)
+    in
+    record { value = listed; upper_bound = grown text _ listed (omega (arith, c.put_refusal.ensures.within)) }

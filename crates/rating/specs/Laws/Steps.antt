@@ -1,22 +1,19 @@
 -- What the steps of `rate` take and hand on, for the contracts inside this crate: the limits of a metal, an arrangement's answers about the
 -- fields, the values that every arrangement shares, and an arrangement's losses. Assumes nothing.
-use Rattle.std.specs.Prelude.{◌≡◌, Bool, true, List, ℕ, ◌*◌, ◌≤◌, ℤ, pos, neg_ℤ}
+use Rattle.std.specs.Prelude.{◌≡◌, Bool, true, List, ℕ, ◌*◌, ◌≤◌, ℤ, pos, neg_ℤ, Result, MatchResult}
 use Rattle.rating.specs.declared.arrangement.Kind.{Kind}
-use Rattle.rating.specs.declared.arrangement.Kind.TheVariants.{BothEnds, OnePoint, SlType, CommonSheath}
 use Rattle.rating.specs.declared.arrangement.Rules.{Rules}
 use Rattle.rating.specs.declared.arrangement.Losses.{Losses}
 use Rattle.rating.specs.declared.conductor.Conduction.{Conduction}
 use Rattle.rating.specs.declared.judge.Shared.{Shared}
-use Rattle.rating.specs.declared.judge.Judgement.{Judgement}
-use Rattle.rating.specs.declared.judge.Judgement.TheVariants.{Refused, Passed}
+use Rattle.rating.specs.declared.refusal.Refusal.{Refusal}
+use Rattle.rating.specs.Refusal.{number_of}
 use Rattle.formulas.specs.Laws.Ranges.{In}
 use Rattle.rating.specs.Values.{R', Rs, RA, B, ys, yp, R, Wd, rise_of}
 use Rattle.rating.specs.Arrangement.{Arrangement, alternating}
-use Rattle.rating.specs.BothEnds.{both_ends}
-use Rattle.rating.specs.OnePoint.{one_point}
 use Rattle.rating.specs.SlType.{sl_type}
-use Rattle.rating.specs.CommonSheath.{common_sheath}
 use Rattle.rating.specs.Arrangements.{own}
+use Rattle.rating.specs.Kind.{arrangement_as}
 use Rattle.rating.specs.FieldRefusals.{field_refusal}
 use Rattle.rating.specs.Stage10.{numbers_of, E}
 use Rattle.rating.specs.Rate.{refused, loaded, rate_of}
@@ -35,17 +32,9 @@ pub record Conducts (x : List ℕ) (h : Conduction) : Type 0 where
   pub yp_is : h.yp ≡ yp x
   pub r_is : h.r ≡ R x
 
--- the case x is bonded at one point: it is of arrangement 3, where j is 1, or of 4, where it is 2
-pub record IsOnePoint (j : ℕ) (x : List ℕ) : Type 0 where
-  pub own_is : own x ≡ one_point j
-  pub j_most : j ≤ 2
-
 -- the case x has the arrangement that the kind names
 abbrev pub Has : List ℕ → Kind → Type 0
-Has x BothEnds = own x ≡ both_ends
-Has x (OnePoint j) = IsOnePoint j x
-Has x SlType = own x ≡ sl_type
-Has x CommonSheath = own x ≡ common_sheath
+Has x kind = own x ≡ arrangement_as kind
 
 -- a is an arrangement, and r holds what it asks of the case x
 pub record Asks (a : Arrangement) (x : List ℕ) (r : Rules) : Type 0 where
@@ -56,6 +45,10 @@ pub record Asks (a : Arrangement) (x : List ℕ) (r : Rules) : Type 0 where
   pub heat : r.heat ≡ a.heat x
   pub metal : r.metal ≡ a.metal x
   pub eddies : r.eddies ≡ a.eddies
+
+-- the first of refusals 1 to 7 that is given, or none is
+abbrev pub ChecksFields : List ℕ → Result (Unit {0}) Refusal → Type 0
+ChecksFields x r = MatchResult r (λ _. field_refusal x ≡ 0) (λ refusal. field_refusal x ≡ number_of refusal)
 
 -- refusals 1 to 7 are not given to the case x, and `eddies` says whether 9 is tried
 pub record FieldsPass (x : List ℕ) (eddies : Bool) : Type 0 where
@@ -74,24 +67,19 @@ pub record Passes (a : Arrangement) (x : List ℕ) (p : Shared) : Type 0 where
   pub r_is : p.r ≡ R x
   pub wd_is : p.wd ≡ Wd x
 
--- the same of a case that has the kind's arrangement; in arrangement 3 or 4, by its j; and in 5, with RA
+-- the same of a case that has the kind's arrangement; and in arrangement 5, with RA
 
 pub record HasPassed (x : List ℕ) (kind : Kind) (p : Shared) : Type 0 where
   pub has : Has x kind
   pub passes : Passes (own x) x p
-
-pub record PassesOnePoint (j : ℕ) (x : List ℕ) (p : Shared) : Type 0 where
-  pub passes : Passes (one_point j) x p
-  pub j_most : j ≤ 2
 
 pub record PassesArmoured (x : List ℕ) (p : Shared) (ra : ℕ) : Type 0 where
   pub passes : Passes sl_type x p
   pub ra_is : ra ≡ RA x
 
 -- one of refusals 1 to 9 is given, or none is
-abbrev pub Judges : List ℕ → Judgement → Type 0
-Judges x (Refused n) = rate_of x ≡ refused n
-Judges x (Passed p) = Passes (own x) x p
+abbrev pub Judges : List ℕ → Result Shared Refusal → Type 0
+Judges x r = MatchResult r (λ p. Passes (own x) x p) (λ refusal. rate_of x ≡ refused (number_of refusal))
 
 -- l holds n, RA, X, S and W of the case x in the arrangement a, whose current alternates
 pub record Loses (a : Arrangement) (x : List ℕ) (l : Losses) : Type 0 where

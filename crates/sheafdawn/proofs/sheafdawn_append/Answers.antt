@@ -2,27 +2,29 @@
 use Rattle.std.proofs.Common.{List, ap, eq-eqb, length, ne_eqb, sym, ℕ, ◌∙◌, ◌≡◌}
 use Rattle.fields.specs.Fields.{width}
 use Rattle.book_laws.specs.Book.{append_of}
-use Rattle.sheafdawn.specs.Calls.{written_call, append_call}
-use Rattle.sheafdawn.proofs.Outs.{one_place, written}
+use Rattle.sheafdawn.specs.Calls.{append_call, written_call}
+use Rattle.sheafdawn.proofs.Outs.{not_written, written}
 use Rattle.sheafdawn.proofs.sheafdawn_append.Goals as goal
 
 through : (b : List ℕ) (used : ℕ) (x out : List ℕ) → length x ≡ width → written_call b out (append_of b used x) ≡ append_call b used x out
 unfolding append_call
 through b used x out is_a_case = sym (simp (eq-eqb _ _ is_a_case))
 
-pub returns-then-case-ne-WIDTH : goal.returns-then-case-ne-WIDTH
+pub returns-in_default : goal.returns-in_default
 unfolding append_call
-returns-then-case-ne-WIDTH c = simp (ne_eqb _ _ c.if-case-ne-WIDTH.true)
+returns-in_default c = simp (ne_eqb _ _ c.in_default.ensures.cases)
 
 pub returns-then-out-ne1 : goal.returns-then-out-ne1
 unfolding append_call written_call
-returns-then-out-ne1 c = simp (eq-eqb _ _ c.if-case-ne-WIDTH.false, ne_eqb _ _ c.if-out-ne1.true)
+returns-then-out-ne1 c = simp (eq-eqb _ _ c.in-Some.ensures.cases.long, ne_eqb _ _ c.if-out-ne1.true)
 
-pub returns : goal.returns
-unfolding append_call
-returns c =
-    let is_1 = c.if-out-ne1.false in
-    let is_a_case = c.if-case-ne-WIDTH.false in
-    let out = c.args.out.now in
-    written _ out (one_place out _ is_1) is_1 (c.append-appended.ensures ∙ ap (append_of _ _) c.case_of.ensures)
-    ∙ through _ _ _ out is_a_case
+pub returns-in-Ok : goal.returns-in-Ok
+returns-in-Ok c =
+    let whole = c.in-Some.ensures.cases in
+    written _ _ _ c.if-out-ne1.false _ (c.in-Ok.ensures ∙ ap (append_of _ _) whole.same) ∙ through _ _ _ c.args.out.now whole.long
+
+pub returns-in-Err : goal.returns-in-Err
+returns-in-Err c =
+    let whole = c.in-Some.ensures.cases in
+    not_written _ _ _ c.if-out-ne1.false _ _ c.from.ensures (c.in-Err.ensures ∙ ap (append_of _ _) whole.same)
+    ∙ through _ _ _ c.args.out.now whole.long

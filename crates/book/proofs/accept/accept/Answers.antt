@@ -1,94 +1,91 @@
--- `book::accept::accept` meets its contract. The invariant: the records before those that are left to judge agree. The measure is how many
--- are left. Assumes nothing.
-use Rattle.std.proofs.Common.{List, ap, arith, false, sym, true, ℕ, ◌+◌, ◌-◌, ◌<◌, ◌∙◌, ◌≡◌}
+-- `book::accept::accept` meets its contract: the trailer's refusals, 23 of the first record that disagrees, and else the count and the
+-- note's length. Assumes nothing.
+use Rattle.std.proofs.Common.{Bool, List, None, Ok, Some, [], ap, arith, cond, false, get_or, length, ltb, ltb-false, not, refl, rules}
+use Rattle.std.proofs.Common.{sym, tests, true, ℕ, ◌+◌, ◌<◌, ◌∙◌, ◌≡◌, ◌≤◌}
+use Rattle.std.specs.List.{position, position_or_len}
+use Rattle.std.proofs.lemmas.Bool.{not-false, not-true}
+use Rattle.std.proofs.lemmas.Iterator.{YieldsList-from_slice}
+use Rattle.std.proofs.lemmas.Iterator.Search.{position_from_yields_List}
+use Rattle.std.proofs.lemmas.List.Quantifiers.{position-Some}
+use Rattle.std.proofs.lemmas.List.Sums.{prefix_len_passes}
+use Rattle.std.proofs.lemmas.Option.{none-some}
+use Rattle.std.proofs.lemmas.Result.{err_from_is_err_and}
+use Rattle.book_laws.specs.Accept.{accept_after, accept_in, unaccepted}
+use Rattle.book_laws.specs.Book.{accept_of, describe}
 use Rattle.book_laws.specs.Layout.{rbk1}
-use Rattle.book_laws.specs.Record.{place_from, agrees, all_agree}
-use Rattle.book_laws.specs.Accept.{unaccepted, accept_after, accept_in}
-use Rattle.book_laws.specs.Book.{describe, accept_of}
-use Rattle.book_laws.proofs.Laws.Trailer.{Described, on_book_on, on_book_refused}
-use Rattle.book_laws.proofs.Laws.Record.{all_agree_none, all_agree_next, all_agree_stop}
+use Rattle.book_laws.specs.Record.{agrees, place_from}
 use Rattle.book_laws.proofs.Laws.Disagreeing.{disagreeing_at}
+use Rattle.book_laws.proofs.Laws.Record.{all_agree_all, all_agree_stop}
 use Rattle.book_bytes.specs.declared.trailer.Description as Code
 use Rattle.book_bytes.specs.Answers.{description_of}
-use Rattle.book.proofs.Described.{of_book}
+use Rattle.book_bytes.specs.Refusal.{number_of}
+use Rattle.book_bytes.specs.Stored.{StoredFrom}
+use Rattle.book_bytes.proofs.Stored.{agrees_in}
+use Rattle.book.proofs.Described.{goes_on, named_none, records_fit, refused}
 use Rattle.book.proofs.accept.accept.Goals as goal
-use Rattle.book.proofs.accept.accept.Goals.{In-loop-rest}
 
-module _ (b : List ℕ) (used : ℕ) {d : Code.Description} (is : description_of d ≡ describe b used) where
-  by_trailer : (d.number ≡ 0 → ⊥) → unaccepted d.number 0 ≡ accept_of b used
-  unfolding accept_in
-  by_trailer given = sym (on_book_refused rbk1 b used _ _ is given)
+-- the test by which a walk over the records stops
+abbrev differs : List ℕ → Bool
+differs stored = not (agrees rbk1 stored 0)
 
-  on : d.number ≡ 0 → accept_of b used ≡ accept_after rbk1 (description_of d) b
-  unfolding accept_in
-  on none = on_book_on rbk1 b used _ _ is none
+-- where no place passes a test, no element does
+none_differs : (p : List ℕ → Bool) (rs : List (List ℕ)) → position p rs ≡ None → (k : ℕ) → k < length rs → p (get_or rs k []) ≡ false
+none_differs p rs none k within =
+    not-true _ (prefix_len_passes (λ r. not (p r)) rs k [] (omega (arith, by_test (ltb (position_or_len p rs) (length rs)) refl none)))
+  where
+    by_test :
+        (stops : Bool) → ltb (position_or_len p rs) (length rs) ≡ stops → cond stops (Some (position_or_len p rs)) None ≡ None →
+        length rs ≤ position_or_len p rs
+    by_test true t e = absurd (none-some _ (sym e))
+    by_test false t e = ltb-false _ _ t
 
-  named :
-      (i k : ℕ) → d.number ≡ 0 → i < d.count → all_agree rbk1 b d.first i ≡ true →
-      agrees rbk1 b (place_from rbk1 d.first i) ≡ false → k ≡ i + 1 → unaccepted 23 k ≡ accept_of b used
-  unfolding accept_after
-  named i k none within so_far differing from_one =
+module _ (b : List ℕ) (used : ℕ) {d : Code.Description} {rs : List (List ℕ)} (is : description_of (Ok d) ≡ describe b used)
+    (stored : StoredFrom b d.first d.count rs) where
+  in_buffer : (i : ℕ) → i < d.count → agrees rbk1 (get_or rs i []) 0 ≡ agrees rbk1 b (place_from rbk1 d.first i)
+  in_buffer i h = ap (λ (t : List ℕ). agrees rbk1 t 0) (stored.each i h) ∙ agrees_in b (place_from rbk1 d.first i)
+
+  agreed : (i : ℕ) → i < d.count → differs (get_or rs i []) ≡ false → agrees rbk1 b (place_from rbk1 d.first i) ≡ true
+  agreed i h same = sym (in_buffer i h) ∙ not-false _ same
+
+  named : (i : ℕ) → position differs rs ≡ Some i → unaccepted 23 (i + 1) ≡ accept_of b used
+  unfolding accept_in accept_after
+  named i found =
+      let first = position-Some differs rs i [] found in
+      let within : i < d.count = omega (arith, first.0, stored.count_is) in
+      let differing = sym (in_buffer i within) ∙ not-true _ first.1 in
+      let so_far = all_agree_all rbk1 b d.first i (λ k h. agreed k (omega arith) (first.2 k h)) in
       let not_all = all_agree_stop rbk1 b d.first d.count i within differing in
       let first_is = disagreeing_at rbk1 b d.first d.count i within so_far differing in
-      ap (unaccepted 23) from_one ∙ sym (on none ∙ simp (not_all, first_is))
+      sym (goes_on b used is _ _ ∙ simp (not_all, first_is))
 
-  accepted :
-      d.number ≡ 0 → all_agree rbk1 b d.first d.count ≡ true →
-      record { number = 0; count = d.count; note = d.first; named = 0 } ≡ accept_of b used
-  unfolding accept_after
-  accepted none all = sym (on none ∙ simp all)
+  accepted : position differs rs ≡ None → record { number = 0; count = d.count; note = d.first; named = 0 } ≡ accept_of b used
+  unfolding accept_in accept_after
+  accepted none =
+      let all = all_agree_all rbk1 b d.first d.count (λ k h. agreed k h (none_differs differs rs none k (omega (arith, stored.count_is)))) in
+      sym (goes_on b used is _ _ ∙ simp all)
 
-pub returns-then-d-ne0 : goal.returns-then-d-ne0
-returns-then-d-ne0 c =
-    c.unaccepted.ensures ∙ by_trailer _ _ c.describe_book-d.ensures c.if-d-ne0.true
+pub returns-in_err-book : goal.returns-in_err-book
+unfolding accept_in
+returns-in_err-book c =
+    let p = err_from_is_err_and c.from_residual.result c.from_residual.ensures.1 in
+    let told = c.in_err-book.ensures in
+    rw (p.1, p.2) (ap (unaccepted (number_of _)) (named_none _ _ _ told) ∙ sym (refused _ _ _ told _ _))
 
-pub loop-rest-init : goal.loop-rest-init
-loop-rest-init c =
-    let count = c.describe_book-d.result.count in
-    let none_yet : count - count ≡ 0 = omega arith in
-    (omega arith, ap (all_agree rbk1 _ _) none_yet ∙ all_agree_none rbk1 _ _)
+pub records-records-requires : goal.records-records-requires
+records-records-requires c = records_fit _ _ c.in_ok-book.ensures
 
--- the records stand within the used length, so that the one that is judged does
-records :
-    (c : In-loop-rest) →
-    Described rbk1 c.args.buffer.now c.args.used (description_of c.describe_book-d.result)
-records c =
-    of_book _ _ c.describe_book-d.ensures c.if-d-ne0.false
+pub returns-in-Some : goal.returns-in-Some
+returns-in-Some c =
+    let place : c.position.result ≡ position differs c.records-records.result.now =
+    position_from_yields_List differs _ _ c.position.result c.position.ensures.ran (YieldsList-from_slice _ c.iter.ensures.rest)
+    (λ x b q k. search (rules, tests))
+    in
+    named _ _ c.in_ok-book.ensures c.records-records.ensures c.in-Some.i (sym place ∙ c.in-Some.is)
 
-fits : (c : In-loop-rest) → c.args.used < 18446744073709551616
-fits c = c.ranges.used.fits
-
-pub overflow_mul-i : goal.overflow_mul-i
-overflow_mul-i c = omega (arith, (records c).places, fits c)
-
-pub overflow_add-first : goal.overflow_add-first
-overflow_add-first c = omega (arith, (records c).places, fits c)
-
-pub record_agrees-requires : goal.record_agrees-requires
-record_agrees-requires c = omega (arith, (records c).places, (records c).used_most)
-
-pub returns-then-not-record_agrees : goal.returns-then-not-record_agrees
-returns-then-not-record_agrees c =
-    let told = c.describe_book-d in
-    let i = told.result.count - c.loop-rest.rest in
-    c.unaccepted-then-not-record_agrees.ensures
-    ∙ named _ _ told.ensures i _ c.if-d-ne0.false (omega arith) c.loop-rest.invariant.1
-    (sym c.record_agrees.ensures ∙ c.if-not-record_agrees.true)
-    (omega arith)
-
-pub loop-rest-preserved : goal.loop-rest-preserved
-loop-rest-preserved c =
-    let at_loop = c.loop-rest in
-    let count = c.describe_book-d.result.count in
-    let one_more : count - (at_loop.rest - 1) ≡ count - at_loop.rest + 1 = omega (arith, at_loop.invariant.0) in (
-      omega arith,
-      ap (all_agree rbk1 _ _) one_more
-          ∙ all_agree_next rbk1 _ _ _ at_loop.invariant.1 (sym c.record_agrees.ensures ∙ c.if-not-record_agrees.false),
-    )
-
-pub returns : goal.returns
-returns c =
-    let at_loop = c.loop-rest in
-    let told = c.describe_book-d in
-    let all : told.result.count - at_loop.rest ≡ told.result.count = omega arith in
-    accepted _ _ told.ensures c.if-d-ne0.false (ap (all_agree rbk1 _ _) (sym all) ∙ at_loop.invariant.1)
+pub returns-in-None : goal.returns-in-None
+returns-in-None c =
+    let place : c.position.result ≡ position differs c.records-records.result.now =
+    position_from_yields_List differs _ _ c.position.result c.position.ensures.ran (YieldsList-from_slice _ c.iter.ensures.rest)
+    (λ x b q k. search (rules, tests))
+    in
+    accepted _ _ c.in_ok-book.ensures c.records-records.ensures (sym place ∙ c.in-None.is)

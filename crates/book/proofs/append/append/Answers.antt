@@ -1,130 +1,81 @@
 -- `book::append::append` meets its contract: the trailer's refusals, 25, 24, and else the record and the new trailer are written.
 -- Assumes nothing.
-use Rattle.std.proofs.Common.{Bool, List, ap, arith, cond, false, le-ltb, leb, leb-false, length, lt-ltb, ltb, ltb-false, ltb-true}
-use Rattle.std.proofs.Common.{refl, suc-ne-zero, sym, true, ℕ, ◌++◌, ◌+◌, ◌-◌, ◌<◌, ◌∙◌, ◌≡◌, ◌≤◌}
+use Rattle.std.proofs.Common.{List, Ok, ap, ap₂, arith, le-leb, le-ltb, length, lt-ltb, sym, ℕ, ◌++◌, ◌+◌, ◌-◌, ◌<◌, ◌∙◌, ◌≡◌, ◌≤◌}
 use Rattle.std.proofs.lemmas.Bool.{lt-leb}
+use Rattle.std.proofs.lemmas.Result.{err_from_is_err_and}
 use Rattle.splice.specs.Splice.{splice}
-use Rattle.book_laws.specs.Layout.{rbk1, record_length, trailer_length}
-use Rattle.book_laws.specs.Format.{record_bytes, trailer_bytes}
-use Rattle.book_laws.specs.Book.{describe, append_of}
-use Rattle.book_laws.proofs.Laws.Trailer.{on_book_on, on_book_refused}
-use Rattle.book_laws.specs.Start.{Written, unwritten}
+use Rattle.splice.proofs.Laws.Splice.{splice_after, splice_length}
 use Rattle.book_laws.specs.Append.{append_after, append_in}
+use Rattle.book_laws.specs.Book.{append_of, describe}
+use Rattle.book_laws.specs.Bytes.{words_bytes}
+use Rattle.book_laws.specs.Format.{record_bytes, trailer_bytes}
+use Rattle.book_laws.specs.Layout.{rbk1, record_length, trailer_length}
+use Rattle.book_laws.specs.Start.{unwritten}
 use Rattle.book_bytes.specs.declared.trailer.Description as Code
 use Rattle.book_bytes.specs.Answers.{description_of}
-use Rattle.book.proofs.Described.{of_book}
+use Rattle.book_bytes.proofs.Stored.{fields_rated}
+use Rattle.book.proofs.Described.{book_of, goes_on, refused}
 use Rattle.book.proofs.append.append.Goals as goal
-use Rattle.book.proofs.append.append.Goals.{After-struct_known-2-1}
 
--- what `own_refusal` answers
-abbrev own_of : ℕ → ℕ → ℕ
-own_of count left = cond (leb rbk1.most count) 25 (cond (ltb left (record_length rbk1)) 24 0)
+module _ (b : List ℕ) (used : ℕ) (x : List ℕ) {d : Code.Description} (is : description_of (Ok d) ≡ describe b used) where
+  full : rbk1.most ≤ d.count → unwritten 25 b ≡ append_of b used x
+  unfolding append_in append_after
+  full most = sym (goes_on b used is _ _ ∙ simp (le-leb _ _ most))
 
--- neither of append's own refusals is given
-record OneMore (count left : ℕ) : Type 0 where
-  pub few : count < rbk1.most
-  pub room : record_length rbk1 ≤ left
-
-own_none : (count left : ℕ) → own_of count left ≡ 0 → OneMore count left
-own_none count left e = by_tests (leb rbk1.most count) (ltb left (record_length rbk1)) refl refl e
-  where
-    by_tests :
-        (full short : Bool) → leb rbk1.most count ≡ full → ltb left (record_length rbk1) ≡ short →
-        ◌≡◌ {A = ℕ} (cond full 25 (cond short 24 0)) 0 →
-        OneMore count left
-    by_tests true short f s e = absurd (suc-ne-zero 24 e)
-    by_tests false true f s e = absurd (suc-ne-zero 23 e)
-    by_tests false false f s e =
-        record { few = leb-false rbk1.most count f; room = ltb-false left (record_length rbk1) s }
-
--- a record's bytes are left where as many more fit
-same_room : (n used : ℕ) → used ≤ n → ltb (n - used) (record_length rbk1) ≡ ltb n (used + record_length rbk1)
-same_room n used h = by_test (ltb n (used + record_length rbk1)) refl
-  where
-    by_test :
-        (short : Bool) → ltb n (used + record_length rbk1) ≡ short →
-        ltb (n - used) (record_length rbk1) ≡ ltb n (used + record_length rbk1)
-    by_test true t = lt-ltb (n - used) (record_length rbk1) (omega (arith, ltb-true n (used + record_length rbk1) t)) ∙ sym t
-    by_test false t = le-ltb (n - used) (record_length rbk1) (omega (arith, ltb-false n (used + record_length rbk1) t)) ∙ sym t
-
--- one chain of tests gives the number and the answer
-chosen :
-    (full short : Bool) (b : List ℕ) (rest : Written) → (◌≡◌ {A = ℕ} (cond full 25 (cond short 24 0)) 0 → ⊥) →
-    cond full (unwritten 25 b) (cond short (unwritten 24 b) rest) ≡ unwritten (cond full 25 (cond short 24 0)) b
-chosen true short b rest given = refl
-chosen false true b rest given = refl
-chosen false false b rest given = absurd (given refl)
-
-module _ (b : List ℕ) (used : ℕ) (x : List ℕ) {d : Code.Description} (is : description_of d ≡ describe b used) where
-  by_trailer : (d.number ≡ 0 → ⊥) → append_of b used x ≡ unwritten d.number b
-  unfolding append_in
-  by_trailer given = on_book_refused rbk1 b used _ _ is given
-
-  on : d.number ≡ 0 → append_of b used x ≡ append_after rbk1 (description_of d) b used x
-  unfolding append_in
-  on none = on_book_on rbk1 b used _ _ is none
-
-  by_own :
-      {r : ℕ} → d.number ≡ 0 → used ≤ length b → r ≡ own_of d.count (length b - used) → (r ≡ 0 → ⊥) →
-      append_of b used x ≡ unwritten r b
-  unfolding append_after
-  by_own {r} none within own_is given =
-      let number_is : r ≡ cond (leb rbk1.most d.count) 25 (cond (ltb (length b) (used + record_length rbk1)) 24 0) =
-      own_is ∙ ap (λ (short : Bool). cond (leb rbk1.most d.count) 25 (cond short 24 0)) (same_room (length b) used within)
-      in
-      on none
-      ∙ chosen (leb rbk1.most d.count) (ltb (length b) (used + record_length rbk1)) b _ (λ zero_is. given (number_is ∙ zero_is))
-      ∙ ap (λ (n : ℕ). unwritten n b) (sym number_is)
+  no_room : d.count < rbk1.most → length b - used < record_length rbk1 → unwritten 24 b ≡ append_of b used x
+  unfolding append_in append_after
+  no_room few short =
+      let past : length b < used + record_length rbk1 = omega (arith, (book_of b used is).used_most) in
+      sym (goes_on b used is _ _ ∙ simp (lt-leb _ _ few, lt-ltb _ _ past))
 
   appended :
-      {m : List ℕ} → d.number ≡ 0 → d.count < rbk1.most → used + record_length rbk1 ≤ length b →
-      m ≡ splice b (used - trailer_length rbk1) (record_bytes rbk1 x ++ trailer_bytes rbk1 (d.count + 1)) →
-      append_of b used x ≡ record { number = 0; used = used + record_length rbk1; bytes = m }
-  unfolding append_after
-  appended none few fits put = on none ∙ rw put (simp (lt-leb _ _ few, le-ltb _ _ fits))
+      {s t m n : List ℕ} (used' : ℕ) → d.count < rbk1.most → used + record_length rbk1 ≤ length b → used' ≡ used + record_length rbk1 →
+      s ≡ record_bytes rbk1 x → t ≡ trailer_bytes rbk1 (d.count + 1) → length s ≡ record_length rbk1 →
+      m ≡ splice b (used - trailer_length rbk1) s → n ≡ splice m (used - trailer_length rbk1 + record_length rbk1) t →
+      record { number = 0; used = used'; bytes = n } ≡ append_of b used x
+  unfolding append_in append_after
+  appended {s} {t} {m} {n} used' few fits used_is record_is trailer_is size put_record put_trailer =
+      let at = used - trailer_length rbk1 in
+      let place : at + record_length rbk1 ≡ at + length s = omega (arith, size) in
+      let bytes_are : n ≡ splice b at (record_bytes rbk1 x ++ trailer_bytes rbk1 (d.count + 1)) =
+      put_trailer
+      ∙ ap (λ (l : List ℕ). splice l (at + record_length rbk1) t) put_record
+      ∙ ap (λ (k : ℕ). splice (splice b at s) k t) place
+      ∙ splice_after b at s t (omega arith)
+      ∙ ap₂ (λ (u v : List ℕ). splice b at (u ++ v)) record_is trailer_is
+      in
+      rw (used_is, bytes_are) (sym (goes_on b used is _ _ ∙ simp (lt-leb _ _ few, le-ltb _ _ fits)))
 
-pub returns-then-d-ne0 : goal.returns-then-d-ne0
-returns-then-d-ne0 c = c.unwritten.ensures _ ∙ sym (by_trailer _ _ _ c.describe_book-d.ensures c.if-d-ne0.true)
+pub returns-in_err-book : goal.returns-in_err-book
+unfolding append_in
+returns-in_err-book c =
+    let p = err_from_is_err_and c.from_residual.result c.from_residual.ensures.1 in
+    rw (p.1, p.2) (sym (refused _ _ _ c.in_err-book.ensures _ _))
+
+pub returns-then-book-ge-MOST_RECORDS : goal.returns-then-book-ge-MOST_RECORDS
+returns-then-book-ge-MOST_RECORDS c = full _ _ _ c.in_ok-book.ensures c.if-book-ge-MOST_RECORDS.true
 
 pub overflow_sub-buffer : goal.overflow_sub-buffer
-overflow_sub-buffer c =
-    omega (arith, (of_book _ _ c.describe_book-d.ensures c.if-d-ne0.false).used_most)
+overflow_sub-buffer c = (book_of _ _ c.in_ok-book.ensures).used_most
 
-pub returns-then-own-ne0 : goal.returns-then-own-ne0
-returns-then-own-ne0 c =
-    let told = c.describe_book-d.ensures in
-    let none = c.if-d-ne0.false in
-    c.unwritten-then-own-ne0.ensures _
-    ∙ sym (by_own _ _ _ told none (of_book _ _ told none).used_most c.own_refusal-own.ensures c.if-own-ne0.true)
+pub returns-then-buffer-used-lt-RECORD_LENGTH : goal.returns-then-buffer-used-lt-RECORD_LENGTH
+returns-then-buffer-used-lt-RECORD_LENGTH c =
+    no_room _ _ _ c.in_ok-book.ensures c.if-book-ge-MOST_RECORDS.false c.if-buffer-used-lt-RECORD_LENGTH.true
 
-pub overflow_sub-used : goal.overflow_sub-used
-overflow_sub-used c =
-    omega (arith, (of_book _ _ c.describe_book-d.ensures c.if-d-ne0.false).places)
+pub overflow_sub-at : goal.overflow_sub-at
+overflow_sub-at c = omega (arith, (book_of _ _ c.in_ok-book.ensures).places)
 
--- a record more fits, where append's own refusals are not given
-one_more :
-    (c : After-struct_known-2-1) →
-    OneMore c.describe_book-d.result.count (length c.args.buffer.now - c.args.used)
-one_more c = own_none _ _ (sym c.own_refusal-own.ensures ∙ c.if-own-ne0.false)
-
-pub overflow_cast-d : goal.overflow_cast-d
-overflow_cast-d c = omega (arith, (one_more c).few)
-
-pub overflow_add-d : goal.overflow_add-d
-overflow_add-d c = omega (arith, (one_more c).few)
-
-pub put_record-requires : goal.put_record-requires
-put_record-requires c =
-    let book = of_book _ _ c.describe_book-d.ensures c.if-d-ne0.false in
-    record { room = omega (arith, book.used_most, book.places, (one_more c).room); count_most = omega (arith, (one_more c).few) }
-
-pub overflow_add-result : goal.overflow_add-result
-overflow_add-result c = omega (arith, (one_more (goal.at.overflow_add-result c).After-struct_known-2-1).room)
+pub put-requires-2 : goal.put-requires-2
+put-requires-2 c =
+    let book = book_of _ _ c.in_ok-book.ensures in
+    let long = ap length c.put.ensures ∙ splice_length _ _ _ (omega (arith, book.places, book.used_most)) in
+    omega (arith, long, book.places, book.used_most)
 
 pub returns : goal.returns
+unfolding record_bytes
 returns c =
-    let told = c.describe_book-d.ensures in
-    let none = c.if-d-ne0.false in
-    sym (appended _ _ _ told none (one_more (goal.at.returns c).After-struct_known-2-1).few
-    (omega (arith, (of_book _ _ told none).used_most, (one_more (goal.at.returns c).After-struct_known-2-1).room))
-    c.put_record.ensures)
+    let book = book_of _ _ c.in_ok-book.ensures in
+    let rated = c.of_case.ensures in
+    appended _ _ _ c.in_ok-book.ensures _ c.if-book-ge-MOST_RECORDS.false (omega (arith, book.places, book.used_most))
+    (omega (arith, book.places)) (c.to_bytes.ensures ∙ ap words_bytes (fields_rated _ rated.case rated.answer rated.rating))
+    c.trailer_of.ensures (omega arith) c.put.ensures c.put-2.ensures

@@ -1,64 +1,56 @@
 -- `book::read::read` meets its contract: the trailer's refusals, 26, and else the fields. Assumes nothing.
-use Rattle.std.proofs.Common.{List, arith, le-leb, sym, ℕ, ◌<◌, ◌∙◌, ◌≡◌, ◌≤◌}
+use Rattle.std.proofs.Common.{List, Ok, [], ap, arith, get_or, le-leb, sym, ℕ, ◌<◌, ◌∙◌, ◌≡◌, ◌≤◌}
 use Rattle.std.proofs.lemmas.Bool.{lt-leb}
+use Rattle.std.proofs.lemmas.Result.{err_from_is_err_and}
+use Rattle.book_laws.specs.Book.{describe, read_of}
 use Rattle.book_laws.specs.Bytes.{words_at}
 use Rattle.book_laws.specs.Layout.{rbk1, record_fields}
-use Rattle.book_laws.specs.Record.{place_from}
-use Rattle.book_laws.specs.Read.{unread, read_after, read_in}
-use Rattle.book_laws.specs.Book.{describe, read_of}
-use Rattle.book_laws.proofs.Laws.Trailer.{on_book_on, on_book_refused}
+use Rattle.book_laws.specs.Read.{read_after, read_in, unread}
+use Rattle.book_laws.specs.Record.{answer_at, case_at, place_from, rating_at}
 use Rattle.book_bytes.specs.declared.trailer.Description as Code
 use Rattle.book_bytes.specs.Answers.{description_of}
-use Rattle.book.proofs.Described.{Inside, inside}
+use Rattle.book_bytes.specs.declared.record.Record.{Record}
+use Rattle.book_bytes.specs.Stored.{StoredFrom, fields_in, stored_at}
+use Rattle.book_bytes.proofs.Stored.{answer_in, case_in, fields_read, rating_in}
+use Rattle.book.proofs.Described.{goes_on, records_fit, refused}
 use Rattle.book.proofs.read.read.Goals as goal
-use Rattle.book.proofs.read.read.Goals.{Else-d-index}
 
-module _ (b : List ℕ) (used index : ℕ) {d : Code.Description} (is : description_of d ≡ describe b used) where
-  by_trailer : (d.number ≡ 0 → ⊥) → read_of b used index ≡ unread rbk1 d.number
-  unfolding read_in
-  by_trailer given = on_book_refused rbk1 b used _ _ is given
-
-  on : d.number ≡ 0 → read_of b used index ≡ read_after rbk1 (description_of d) b index
-  unfolding read_in
-  on none = on_book_on rbk1 b used _ _ is none
-
-  past_count : d.number ≡ 0 → d.count ≤ index → read_of b used index ≡ unread rbk1 26
-  unfolding read_after
-  past_count none past = on none ∙ simp (le-leb _ _ past)
+module _ (b : List ℕ) (used index : ℕ) {d : Code.Description} (is : description_of (Ok d) ≡ describe b used) where
+  past_count : d.count ≤ index → unread rbk1 26 ≡ read_of b used index
+  unfolding read_in read_after
+  past_count past = sym (goes_on b used is _ _ ∙ simp (le-leb _ _ past))
 
   found :
-      {f : List ℕ} → d.number ≡ 0 → index < d.count → f ≡ words_at b (place_from rbk1 d.first index) (record_fields rbk1) →
-      read_of b used index ≡ record { number = 0; fields = f }
-  unfolding read_after
-  found none within read = on none ∙ rw read (simp (lt-leb _ _ within))
+      {rs : List (List ℕ)} {t : List ℕ} {r : Record} → StoredFrom b d.first d.count rs → index < d.count → t ≡ get_or rs index [] →
+      r.case ≡ case_at rbk1 t 0 → r.answer ≡ answer_at rbk1 t 0 → r.rating ≡ rating_at rbk1 t 0 →
+      record { number = 0; fields = fields_in r } ≡ read_of b used index
+  unfolding read_in read_after
+  found {rs} {t} {r} stored within is_it of_case of_answer of_rating =
+      let place = place_from rbk1 d.first index in
+      let bytes_are : t ≡ stored_at b place = is_it ∙ stored.each index within in
+      let fields_are : fields_in r ≡ words_at b place (record_fields rbk1) =
+      fields_read b place (of_case ∙ ap (λ (u : List ℕ). case_at rbk1 u 0) bytes_are ∙ case_in b place)
+      (of_answer ∙ ap (λ (u : List ℕ). answer_at rbk1 u 0) bytes_are ∙ answer_in b place)
+      (of_rating ∙ ap (λ (u : List ℕ). rating_at rbk1 u 0) bytes_are ∙ rating_in b place)
+      in
+      ap (λ (f : List ℕ). record { number = 0; fields = f }) fields_are
+      ∙ sym (goes_on b used is _ _ ∙ simp (lt-leb _ _ within))
 
-pub returns-then-d-ne0 : goal.returns-then-d-ne0
-returns-then-d-ne0 c = c.unread.ensures ∙ sym (by_trailer _ _ _ c.describe_book-d.ensures c.if-d-ne0.true)
+pub returns-in_err-book : goal.returns-in_err-book
+unfolding read_in
+returns-in_err-book c =
+    let p = err_from_is_err_and c.from_residual.result c.from_residual.ensures.1 in
+    rw (p.1, p.2) (sym (refused _ _ _ c.in_err-book.ensures _ _))
 
-pub returns-then-d-index : goal.returns-then-d-index
-returns-then-d-index c =
-    c.unread-then-d-index.ensures
-    ∙ sym (past_count _ _ _ c.describe_book-d.ensures c.if-d-ne0.false c.if-d-index.true)
+pub records-requires : goal.records-requires
+records-requires c = records_fit _ _ c.in_ok-book.ensures
 
--- the record that is read is one of the book's
-at_index :
-    (c : Else-d-index) →
-    Inside c.args.buffer.now c.args.used c.describe_book-d.result c.args.index
-at_index c =
-    inside _ _ _ c.describe_book-d.ensures c.if-d-ne0.false c.if-d-index.false
+pub returns-in-Some : goal.returns-in-Some
+returns-in-Some c =
+    let index = c.in-Some.ensures.lookup in
+    let said = c.of_bytes.ensures in
+    found _ _ _ c.in_ok-book.ensures c.records.ensures (omega (arith, index.3, c.records.ensures.count_is)) (index.3.1 [])
+    said.case said.answer said.rating
 
-fits : (c : Else-d-index) → c.args.used < 18446744073709551616
-fits c = c.ranges.used.fits
-
-pub overflow_mul-index : goal.overflow_mul-index
-overflow_mul-index c = omega (arith, at_index c, fits c)
-
-pub overflow_add-d : goal.overflow_add-d
-overflow_add-d c = omega (arith, at_index (goal.at.overflow_add-d c).Else-d-index, fits (goal.at.overflow_add-d c).Else-d-index)
-
-pub fields_at-requires : goal.fields_at-requires
-fields_at-requires c = omega (arith, at_index (goal.at.fields_at-requires c).Else-d-index)
-
-pub returns : goal.returns
-returns c =
-    sym (found _ _ _ c.describe_book-d.ensures c.if-d-ne0.false c.if-d-index.false c.fields_at.ensures)
+pub returns-in-None : goal.returns-in-None
+returns-in-None c = past_count _ _ _ c.in_ok-book.ensures (omega (arith, c.in-None.ensures.lookup, c.records.ensures.count_is))

@@ -5,4 +5,4 @@ use Rattle.book_laws.proofs.Laws.Bytes.{word_digits}
 use Rattle.book_bytes.proofs.field.put_word.Goals as goal
 
 pub returns : goal.returns
-returns c = c.put_four.ensures ∙ ap (splice _ _) (sym (word_digits _))
+returns c = c.put.ensures ∙ ap (splice _ _) (c.to_be_bytes.ensures ∙ sym (word_digits _))

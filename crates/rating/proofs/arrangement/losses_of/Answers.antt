@@ -14,8 +14,7 @@ pub both_ends_losses-requires : goal.both_ends_losses-requires
 both_ends_losses-requires c = passes (has (goal.at.both_ends_losses-requires c).Start c.in-BothEnds.is) c.requires.passes
 
 pub one_point_losses-requires : goal.one_point_losses-requires
-one_point_losses-requires c = let of_one_point = has (goal.at.one_point_losses-requires c).Start c.in-OnePoint.is in
-    record { passes = passes of_one_point.own_is c.requires.passes; j_most = of_one_point.j_most }
+one_point_losses-requires c = passes (has (goal.at.one_point_losses-requires c).Start c.in-OnePoint.is) c.requires.passes
 
 pub sl_type_losses-requires : goal.sl_type_losses-requires
 sl_type_losses-requires c = passes (has (goal.at.sl_type_losses-requires c).Start c.in-SlType.is) c.requires.passes
@@ -27,7 +26,7 @@ pub returns-in-BothEnds : goal.returns-in-BothEnds
 returns-in-BothEnds c = loses (has (goal.at.returns-in-BothEnds c).Start c.in-BothEnds.is) c.both_ends_losses.ensures
 
 pub returns-in-OnePoint : goal.returns-in-OnePoint
-returns-in-OnePoint c = loses (has (goal.at.returns-in-OnePoint c).Start c.in-OnePoint.is).own_is c.one_point_losses.ensures
+returns-in-OnePoint c = loses (has (goal.at.returns-in-OnePoint c).Start c.in-OnePoint.is) c.one_point_losses.ensures
 
 pub returns-in-SlType : goal.returns-in-SlType
 returns-in-SlType c = loses (has (goal.at.returns-in-SlType c).Start c.in-SlType.is) c.sl_type_losses.ensures

@@ -8,7 +8,7 @@ pub returns-in-BothEnds : goal.returns-in-BothEnds
 returns-in-BothEnds c = asks (subst (Has c.args.x) c.in-BothEnds.is c.requires) c.both_ends_rules.ensures
 
 pub returns-in-OnePoint : goal.returns-in-OnePoint
-returns-in-OnePoint c = asks (subst (Has c.args.x) c.in-OnePoint.is c.requires).own_is (c.one_point_rules.ensures _)
+returns-in-OnePoint c = asks (subst (Has c.args.x) c.in-OnePoint.is c.requires) (c.one_point_rules.ensures _)
 
 pub returns-in-SlType : goal.returns-in-SlType
 returns-in-SlType c = asks (subst (Has c.args.x) c.in-SlType.is c.requires) c.sl_type_rules.ensures

@@ -47,10 +47,12 @@ pub overflow_mul-dd : goal.overflow_mul-dd
 overflow_mul-dd c =
     omega (arith, dd_is (goal.at.overflow_mul-dd c).After-dielectric_rise_of-dd, (numbers_in_range c.requires.passes.fit).dd)
 
-pub refuse-requires : goal.refuse-requires
+pub returns-then-permitted-dd : goal.returns-then-permitted-dd
 unfolding loaded
-refuse-requires c =
-    c.requires.passes.answer ∙ simp (hot (goal.at.refuse-requires c).After-rise-permitted ∙ lt-ltb _ _ c.if-permitted-dd.true)
+returns-then-permitted-dd c =
+    sym
+    (c.requires.passes.answer
+    ∙ simp (hot (goal.at.returns-then-permitted-dd c).After-rise-permitted ∙ lt-ltb _ _ c.if-permitted-dd.true))
 
 pub unit_rise_of-e-requires : goal.unit_rise_of-e-requires
 unit_rise_of-e-requires c = c.requires
@@ -65,12 +67,13 @@ current_of-i-requires c =
       share = c.if-permitted-dd.false;
     }
 
-pub refuse-requires-then-i-gt-MOST_CURRENT : goal.refuse-requires-then-i-gt-MOST_CURRENT
+pub returns-then-i-gt-MOST_CURRENT : goal.returns-then-i-gt-MOST_CURRENT
 unfolding loaded current_refused
-refuse-requires-then-i-gt-MOST_CURRENT c =
+returns-then-i-gt-MOST_CURRENT c =
     let over = ap (ltb 5000000) (sym c.current_of-i.ensures) ∙ lt-ltb _ _ c.if-i-gt-MOST_CURRENT.true in
-    c.requires.passes.answer
-    ∙ simp (hot (goal.at.refuse-requires-then-i-gt-MOST_CURRENT c).After-rise-permitted ∙ le-ltb _ _ c.if-permitted-dd.false, over)
+    sym
+    (c.requires.passes.answer
+    ∙ simp (hot (goal.at.returns-then-i-gt-MOST_CURRENT c).After-rise-permitted ∙ le-ltb _ _ c.if-permitted-dd.false, over))
 
 pub returns : goal.returns
 unfolding loaded current_refused rated sheet_of alternating
@@ -92,9 +95,3 @@ returns c =
           ∷ c.unit_rise_of-e.ensures j
           ∷ [];
     })
-
-pub returns-then-permitted-dd : goal.returns-then-permitted-dd
-returns-then-permitted-dd c = c.refuse.ensures
-
-pub returns-then-i-gt-MOST_CURRENT : goal.returns-then-i-gt-MOST_CURRENT
-returns-then-i-gt-MOST_CURRENT c = c.refuse-then-i-gt-MOST_CURRENT.ensures

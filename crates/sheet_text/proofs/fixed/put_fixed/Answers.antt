@@ -1,59 +1,42 @@
--- `sheet_text::fixed::put_fixed` meets its contract: the laws of `Points` put its three writings together.
+-- `sheet_text::fixed::put_fixed` meets its contract: the digits before the point, the point and those after it are joined.
 -- Assumes nothing.
-use Rattle.std.proofs.Common.{arith, div-le_self, length, lit<, lt_of_le_of_lt, mod-lt, ℕ, ◌%◌, ◌+◌, ◌/◌, ◌<◌, ◌^◌, ◌≡◌, ◌≤◌}
-use Rattle.std.proofs.Math.Nat.{one-le-pow, pow-le-pow_right}
-use Rattle.decimals.specs.Decimal.{decimal}
-use Rattle.decimals.proofs.Laws.Decimal.{count_64}
-use Rattle.splice.proofs.Laws.Put.{put_as}
-use Rattle.sheet_text.proofs.Points.{fixed_none, point_put}
+use Rattle.std.proofs.Common.{[], ap, arith, drop, lit<, List, length, ◌%◌, ◌++◌, ◌/◌, ◌∙◌, ◌∷◌, ◌≡◌, ℕ}
+use Rattle.std.proofs.lemmas.Str.{IsCharBoundary-from_ascii}
+use Rattle.decimals.specs.Decimal.{decimal, padded}
+use Rattle.sheet_text.proofs.Points.{fixed_none, pointed, positive, sum_small, written_ahead}
 use Rattle.sheet_text.proofs.fixed.put_fixed.Goals as goal
 
--- a power of ten of at most 16 zeros
-positive : (d one : ℕ) → one ≡ 10 ^ d → 0 < one
-positive d one e = rw e (one-le-pow d 10 (lit< tt))
-
-small : (d one : ℕ) → one ≡ 10 ^ d → d ≤ 16 → one ≤ 10000000000000000
-small d one e h = rw e (pow-le-pow_right (lit< tt) {i = d} {j = 16} h)
-
-sum_small : (d one x : ℕ) → one ≡ 10 ^ d → d ≤ 16 → one + x % one ≤ 20000000000000000
-sum_small d one x e h = omega (arith, small d one e h, mod-lt x (positive d one e))
-
--- the digits before the point
-count : (x one : ℕ) → x < 2 ^ 64 → length (decimal (x / one)) ≤ 20
-count x one h = count_64 (x / one) (lt_of_le_of_lt (div-le_self x one) h)
-
 pub returns-then-decimals-eq0 : goal.returns-then-decimals-eq0
-returns-then-decimals-eq0 c =
-    let a = c.args in
-    let none = c.if-decimals-eq0.true in
-    put_as _ _ (fixed_none a.decimals a.x none) c.put_decimal.ensures
+returns-then-decimals-eq0 g c =
+    c.put_decimal.ensures.text
+    ∙ ap (λ (t : List ℕ). c.args.out.now.bytes ++ t) (fixed_none c.args.decimals c.args.x c.if-decimals-eq0.true)
 
 pub nonzero_div-x : goal.nonzero_div-x
-nonzero_div-x c = positive _ _ c.power_of_ten-one.ensures
+nonzero_div-x g c = positive c.args.decimals _ c.pow-one.ensures
 
 pub nonzero_rem-x : goal.nonzero_rem-x
-nonzero_rem-x c = positive _ _ c.power_of_ten-one.ensures
+nonzero_rem-x g c = positive c.args.decimals _ c.pow-one.ensures
 
 pub overflow_add-one : goal.overflow_add-one
-overflow_add-one c =
-    let power = c.power_of_ten-one.ensures in
-    omega (arith, sum_small _ _ c.args.x power c.requires.few_decimals)
+overflow_add-one g c =
+    omega (arith, sum_small c.args.decimals _ c.pow-one.ensures c.requires.few_decimals c.args.x)
 
-pub put_decimal-end-requires : goal.put_decimal-end-requires
-put_decimal-end-requires c =
-    omega (arith, count c.args.x c.power_of_ten-one.result c.ranges.x.fits)
-
-pub put_byte-requires : goal.put_byte-requires
-put_byte-requires c =
-    omega (arith, count c.args.x c.power_of_ten-one.result c.ranges.x.fits)
+pub range_from-requires : goal.range_from-requires
+range_from-requires g c =
+    let ahead = c.format.ensures.text ∙ written_ahead c.args.decimals _ c.pow-one.ensures c.requires.few_decimals c.args.x in
+    λ _. IsCharBoundary-from_ascii _ 1 c.format.ensures.ascii (omega (arith, ap length ahead))
 
 pub returns : goal.returns
-returns c =
-    let one = c.power_of_ten-one in
-    let a = c.args in
-    let digits = count a.x one.result c.ranges.x.fits in
-    let room : a.at + length (decimal (a.x / one.result)) ≤ length a.out.now = omega arith in
-    let same : length c.put_decimal-point.new.out ≡ length a.out.now = omega arith in
-    let some = c.if-decimals-eq0.false in
-    point_put _ _ _ _ _ _ _ _ _ _ some one.ensures room same c.put_decimal-point.ensures c.put_decimal-end.ensures
-    c.put_byte.ensures.list_is
+returns g c =
+    let text = c.args.out.now.bytes in
+    let x = c.args.x in
+    let one = c.pow-one.result in
+    let whole = text ++ decimal (x / one) in
+    let ahead = c.format.ensures.text ∙ written_ahead c.args.decimals one c.pow-one.ensures c.requires.few_decimals x in
+    let after : c.range_from.result.now ≡ padded c.args.decimals (x % one) = c.range_from.ensures.value ∙ ap (drop 1) ahead in
+    let point : c.push.new.self.bytes ≡ whole ++ (46 ∷ []) =
+    c.push.ensures.ascii (lit< tt) ∙ ap (λ (t : List ℕ). t ++ (46 ∷ [])) c.put_decimal-2.ensures.text in
+    c.push_str.ensures.bytes
+    ∙ ap (λ (t : List ℕ). t ++ c.range_from.result.now) point
+    ∙ ap (λ (t : List ℕ). (whole ++ (46 ∷ [])) ++ t) after
+    ∙ pointed c.args.decimals one c.pow-one.ensures text x c.if-decimals-eq0.false

@@ -1,23 +1,34 @@
--- `sheet_text::fixed::put_signed` meets its contract: the sign, and the digits after it.
--- Assumes nothing.
-use Rattle.std.proofs.Common.{[], arith, false, true, ℕ, ◌++◌, ◌∷◌, ◌≡◌}
-use Rattle.sheet_text.specs.declared.fixed.Value.{Value}
+-- `sheet_text::fixed::put_signed` meets its contract: the sign, and the digits after it. Assumes nothing.
+use Rattle.std.proofs.Common.{append_assoc, ap, lit<, List, [], ◌++◌, ◌∙◌, ◌∷◌, ◌≡◌, ◌<ℤ◌, ◌≤ℤ◌, ℕ, ℤ, pos, negsuc, refl, rules, unsigned_abs}
+use Rattle.std.proofs.lemmas.Int.{to_z-of_z}
 use Rattle.sheet_text.specs.Fixed.{fixed, signed}
-use Rattle.splice.proofs.Laws.Put.{put_as, put_then}
 use Rattle.sheet_text.proofs.fixed.put_signed.Goals as goal
+use Rattle.sheet_text.proofs.fixed.put_signed.Goals.{then-x-lt0, else-x-lt0}
 
-with_minus : (d : ℕ) (v : Value) → v.negative ≡ true → (45 ∷ []) ++ fixed d v.size ≡ signed d v
+with_minus : (d : ℕ) (z : ℤ) (text : List ℕ) → z <ℤ pos 0 → (text ++ (45 ∷ [])) ++ fixed d (unsigned_abs z) ≡ text ++ signed d z
 unfolding signed
-with_minus d v h = rw h
+with_minus d (pos n) text h = absurd (search (rules, h))
+with_minus d (negsuc n) text h = append_assoc text (45 ∷ []) (fixed d (unsigned_abs (negsuc n)))
 
-without_minus : (d : ℕ) (v : Value) → v.negative ≡ false → fixed d v.size ≡ signed d v
+without_minus : (d : ℕ) (z : ℤ) (text : List ℕ) → pos 0 ≤ℤ z → text ++ fixed d (unsigned_abs z) ≡ text ++ signed d z
 unfolding signed
-without_minus d v h = rw h
-
-pub returns-then-v : goal.returns-then-v
-returns-then-v c =
-    put_as _ _ (with_minus _ _ c.if-v.true)
-    (put_then _ _ (45 ∷ []) _ (omega arith) c.put_byte-digits.ensures c.put_fixed.ensures)
+without_minus d (pos n) text h = refl
+without_minus d (negsuc n) text h = absurd (search (rules, h))
 
 pub returns : goal.returns
-returns c = put_as _ _ (without_minus _ _ c.if-v.false) c.put_fixed-2.ensures
+returns g c =
+    let x = c.args.x in
+    let digits = fixed c.args.decimals (unsigned_abs x) in
+    let text = c.args.out.now.bytes in
+    let joined : c.put_fixed.new.out.bytes ≡ c.if-x-lt0.out.bytes ++ digits =
+    c.put_fixed.ensures ∙ ap (λ (n : ℕ). c.if-x-lt0.out.bytes ++ fixed c.args.decimals n) (c.unsigned_abs.ensures.value ∙ search (rules, to_z-of_z)) in
+    elim c.if-x-lt0.branch [
+      | then-x-lt0 w ↦
+          joined
+          ∙ ap (λ (t : List ℕ). t ++ digits) (ap (λ o. o.bytes) w.out-is ∙ w.push.ensures.ascii (lit< tt))
+          ∙ with_minus c.args.decimals x text (search (rules, to_z-of_z, w.if-x-lt0.true))
+      | else-x-lt0 w ↦
+          joined
+          ∙ ap (λ (t : List ℕ). t ++ digits) (ap (λ o. o.bytes) w.out-is)
+          ∙ without_minus c.args.decimals x text (search (rules, to_z-of_z, w.if-x-lt0.false))
+    ]

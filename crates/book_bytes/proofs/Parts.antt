@@ -1,0 +1,105 @@
+-- What a part of a list says is what the list says there: numbers, fields and the mark. The code reads a record or a trailer out of its own
+-- bytes, and the laws speak of its place in the buffer. Also what a write into a part leaves. Assumes nothing.
+use Rattle.std.proofs.Common.{List, [], ap, ap₂, append-nil, append_assoc, arith, drop, drop-cons, eqb, get_or, length, refl}
+use Rattle.std.proofs.Common.{suc, sym, take, zero, zero-add, ℕ, ◌&&◌, ◌*◌, ◌++◌, ◌+◌, ◌-◌, ◌<◌, ◌∙◌, ◌∷◌, ◌≡◌, ◌≤◌}
+use Rattle.std.proofs.Math.Nat.{sub-zero}
+use Rattle.std.proofs.Math.Seq.{drop-length}
+use Rattle.std.proofs.lemmas.Bool.Decides.{nat_tests}
+use Rattle.std.proofs.lemmas.List.{drop-drop, ext_get_or, get_or-drop, get_or-take}
+use borrow.Rule.Slice.PartMut.{put_mid}
+use Rattle.std.specs.List.{slice_range, starts_with}
+use Rattle.splice.specs.Splice.{splice}
+use Rattle.book_laws.specs.Bytes.{number_at, stands, word_at, words_at}
+use Rattle.book_laws.proofs.Laws.Bytes.{words_at_length}
+
+eqb_swap : (m n : ℕ) → eqb m n ≡ eqb n m
+eqb_swap m n = grind (arith, nat_tests)
+
+-- t has the n elements of b from `at` on
+pub record Part (b : List ℕ) (at n : ℕ) (t : List ℕ) : Type 0 where
+  pub same : (i : ℕ) → i < n → get_or t i 0 ≡ get_or b (at + i) 0
+
+pub part_taken : (b : List ℕ) (at n : ℕ) → Part b at n (take n (drop at b))
+part_taken b at n = record { same = λ i h. get_or-take n (drop at b) i 0 h ∙ get_or-drop at b i 0 }
+
+-- the last n bytes of the first `used`
+pub part_last :
+    (b : List ℕ) (used n before : ℕ) {front t : List ℕ} → front ≡ slice_range b 0 used → length front ≡ used →
+    t ≡ drop (length front - n) front → before + n ≡ used → Part b before n t
+part_last b used n before {front} {t} is size last within =
+    let first : length front - n ≡ before = omega arith in
+    record {
+      same = λ i h.
+          ap (λ (l : List ℕ). get_or l i 0) last
+          ∙ get_or-drop (length front - n) front i 0
+          ∙ ap₂ (λ (l : List ℕ) (k : ℕ). get_or l (k + i) 0) (is ∙ ap (λ (k : ℕ). take k b) (sub-zero used)) first
+          ∙ get_or-take used b (before + i) 0 (omega arith);
+    }
+
+module _ (b t : List ℕ) (at n : ℕ) (part : Part b at n t) where
+  pub number_in : (i w : ℕ) → i + w ≤ n → number_at t i w ≡ number_at b (at + i) w
+  unfolding number_at
+  number_in i zero h = refl
+  number_in i (suc w) h =
+      let place : at + (i + w) ≡ at + i + w = omega arith in
+      ap₂ (λ (m k : ℕ). m * 256 + k) (number_in i w (omega arith))
+      (part.same (i + w) (omega arith) ∙ ap (λ (k : ℕ). get_or b k 0) place)
+
+  pub words_in : (i k : ℕ) → i + 4 * k ≤ n → words_at t i k ≡ words_at b (at + i) k
+  unfolding words_at
+  words_in i zero h = refl
+  words_in i (suc k) h =
+      let place : at + (i + 4) ≡ at + i + 4 = omega arith in
+      ap₂ ◌∷◌ (number_in i 4 (omega arith)) (words_in (i + 4) k (omega arith) ∙ ap (λ (j : ℕ). words_at b j k) place)
+
+  pub stands_in : (vs : List ℕ) (i : ℕ) → i + length vs ≤ n → stands vs t i ≡ stands vs b (at + i)
+  unfolding stands
+  stands_in [] i h = refl
+  stands_in (v ∷ vs) i h =
+      let place : at + (i + 1) ≡ at + i + 1 = omega arith in
+      ap₂ ◌&&◌ (ap (λ (x : ℕ). eqb x v) (part.same i (omega arith)))
+      (stands_in vs (i + 1) (omega arith) ∙ ap (stands vs b) place)
+
+-- a part of a slice that was written over
+pub put_spliced : (l : List ℕ) (at k : ℕ) {us vs : List ℕ} → us ≡ vs → length vs ≡ k → put_mid at k l us ≡ splice l at vs
+unfolding splice
+put_spliced l at k {us} {vs} is size =
+    ap (put_mid at k l) is
+    ∙ ap (λ (t : List ℕ). take at l ++ (vs ++ t)) (drop-drop k at l ∙ ap (λ (n : ℕ). drop (at + n) l) (sym size))
+    ∙ sym (append_assoc (take at l) vs (drop (at + length vs) l))
+
+-- all of it
+pub splice_whole : (l vs : List ℕ) → length l ≡ length vs → splice l 0 vs ≡ vs
+unfolding splice
+splice_whole l vs size =
+    let end : 0 + length vs ≡ length l = omega arith in
+    ap (λ (n : ℕ). vs ++ drop n l) end ∙ ap (λ (t : List ℕ). vs ++ t) (drop-length l) ∙ append-nil vs
+
+-- a list that starts with the bytes vs has them at its front
+starts_from : (vs l : List ℕ) (at : ℕ) → at + length vs ≤ length l → starts_with eqb (drop at l) vs ≡ stands vs l at
+unfolding stands
+starts_from [] l at h = refl
+starts_from (v ∷ vs) l at h =
+    let next : suc at ≡ at + 1 = omega arith in
+    ap (λ (t : List ℕ). starts_with eqb t (v ∷ vs)) (drop-cons l at 0 (omega arith))
+    ∙ ap₂ ◌&&◌ (eqb_swap v (get_or l at 0)) (ap (λ (k : ℕ). starts_with eqb (drop k l) vs) next ∙ starts_from vs l (at + 1) (omega arith))
+
+pub starts_stands : (vs l : List ℕ) → length vs ≤ length l → starts_with eqb l vs ≡ stands vs l 0
+starts_stands vs l h = starts_from vs l 0 (omega arith)
+
+-- each of the fields that stand one after another
+pub words_at_each : (b : List ℕ) (at n k : ℕ) → k < n → get_or (words_at b at n) k 0 ≡ word_at b (at + 4 * k)
+unfolding words_at
+words_at_each b at zero k h = absurd (omega arith)
+words_at_each b at (suc n) zero h = ap (word_at b) (omega arith)
+words_at_each b at (suc n) (suc k) h =
+    let place : at + 4 + 4 * k ≡ at + 4 * suc k = omega arith in
+    words_at_each b (at + 4) n k (omega arith) ∙ ap (word_at b) place
+
+pub words_at_all :
+    (b ws : List ℕ) (n : ℕ) → length ws ≡ n → ((k : ℕ) → k < n → get_or ws k 0 ≡ word_at b (4 * k)) → ws ≡ words_at b 0 n
+words_at_all b ws n size each =
+    ext_get_or 0 ws (words_at b 0 n) (size ∙ sym (words_at_length b 0 n))
+    (λ k h.
+    let within : k < n = omega (arith, size) in
+    each k within ∙ sym (words_at_each b 0 n k within ∙ ap (word_at b) (zero-add (4 * k))))

@@ -1,3 +1,0 @@
--- What follows from the definition of a number in decimal. Assumes nothing.
-pub mod Leading
-pub mod Parts

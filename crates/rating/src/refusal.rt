@@ -1,0 +1,39 @@
+// The refusals of a case, in the order in which they are tried. The numbers are those of docs/RATING.md, 'The refusals', which the C functions
+// and the books write.
+ghost use Rattle.std.specs.Prelude.{◌≡◌};
+ghost use Rattle.rating.specs.Refusal.{number_of};
+
+#[derive(Clone, Copy, Debug, PartialEq, Eq)]
+pub enum Refusal {
+    Arrangement,
+    Conductor,
+    Limit,
+    Stray,
+    Geometry,
+    Heat,
+    Metal,
+    Skin,
+    Eddy,
+    Dielectric,
+    Current,
+}
+
+impl From<Refusal> for u32 {
+    ghost from_gives = { λ refusal n. n ≡ number_of refusal };
+
+    fn from(refusal: Refusal) -> u32 {
+        match refusal {
+            Refusal::Arrangement => 1,
+            Refusal::Conductor => 2,
+            Refusal::Limit => 3,
+            Refusal::Stray => 4,
+            Refusal::Geometry => 5,
+            Refusal::Heat => 6,
+            Refusal::Metal => 7,
+            Refusal::Skin => 8,
+            Refusal::Eddy => 9,
+            Refusal::Dielectric => 10,
+            Refusal::Current => 11,
+        }
+    }
+}

@@ -1,2 +1,0 @@
--- What the contracts inside this crate ensure. Assumes nothing.
-pub mod Steps

@@ -100,6 +100,7 @@ impl Arrangement for Kind {
 }
 
 // The limits of c in a cable of three cores.
+#[tactic(auto, unfolding(crate::specs::Arrangement::axis_limits))]
 pub(crate) fn axis_limits(x: Case) -> bool
     ensures { result ≡ Spec.axis_limits x }
 {
@@ -107,6 +108,7 @@ pub(crate) fn axis_limits(x: Case) -> bool
 }
 
 // Fields 17, 18, 19 and 21 are zero.
+#[tactic(auto, unfolding(crate::specs::Arrangement::no_armour))]
 pub(crate) fn no_armour(x: Case) -> bool
     ensures { result ≡ Spec.no_armour x }
 {
@@ -117,6 +119,7 @@ pub(crate) fn no_armour(x: Case) -> bool
 }
 
 // Fields 17 to 21 are all zero.
+#[tactic(auto, unfolding(crate::specs::Arrangement::armourless))]
 pub(crate) fn armourless(x: Case) -> bool
     ensures { result ≡ Spec.armourless x }
 {

@@ -13,6 +13,7 @@ pub struct BothEnds;
 impl Arrangement for BothEnds {
     ghost adds = { λ _. both_ends };
 
+    #[tactic(auto, unfolding(crate::specs::BothEnds::both_ends))]
     fn rules(&self, x: Case) -> Rules {
         Rules {
             limits: true,

@@ -66,6 +66,7 @@ impl SoundCase {
         )
     }
 
+    #[tactic(auto, unfolding(crate::specs::Values::Rs))]
     pub(crate) fn sheath_resistance(&self) -> u64
         ensures { result ≡ Rs self.now.x }
     {
@@ -76,6 +77,7 @@ impl SoundCase {
         )
     }
 
+    #[tactic(auto, unfolding(crate::specs::Values::B))]
     pub(crate) fn reactance(&self) -> u64
         ensures { result ≡ B self.now.x }
     {
@@ -91,6 +93,7 @@ impl SoundCase {
         skin_ratio(u64::from(self.x[FREQUENCY]), u64::from(k), rc)
     }
 
+    #[tactic(auto, unfolding(crate::specs::Values::rise_of))]
     pub(crate) fn rise(&self) -> u64
         ensures { result ≡ rise_of self.now.x }
     {

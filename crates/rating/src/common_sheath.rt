@@ -13,6 +13,7 @@ impl Arrangement for CommonSheath {
     ghost adds = { λ _. common_sheath };
 
     // The spacing is of cores within the sheath, and may be less than its diameter.
+    #[tactic(auto, unfolding(crate::specs::CommonSheath::common_sheath))]
     fn rules(&self, x: Case) -> Rules {
         Rules {
             limits: axis_limits(x),

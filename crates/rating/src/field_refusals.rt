@@ -46,12 +46,14 @@ fn warmer(conductor: u32, ambient: u32) -> bool
     500 <= signed(conductor) - signed(ambient)
 }
 
+#[tactic(auto, unfolding(crate::specs::FieldRefusals::conductor_refused))]
 fn conductor_refused(x: Case) -> bool
     ensures { result ≡ FieldRefusals.conductor_refused x }
 {
     !within(1, 8, x[CONDUCTOR])
 }
 
+#[tactic(auto, unfolding(crate::specs::FieldRefusals::conductor_limits))]
 fn conductor_limits(x: Case) -> bool
     ensures { result ≡ FieldRefusals.conductor_limits x }
 {
@@ -65,6 +67,7 @@ fn conductor_limits(x: Case) -> bool
         & within(100, 30000, x[INSULATION_DIAMETER])
 }
 
+#[tactic(auto, unfolding(crate::specs::FieldRefusals::sheath_limits))]
 fn sheath_limits(x: Case) -> bool
     ensures { result ≡ FieldRefusals.sheath_limits x }
 {
@@ -77,6 +80,7 @@ fn sheath_limits(x: Case) -> bool
         & within_signed(-4000, 25000, x[SHEATH_TEMPERATURE])
 }
 
+#[tactic(auto, unfolding(crate::specs::FieldRefusals::thermal_limits))]
 fn thermal_limits(x: Case) -> bool
     ensures { result ≡ FieldRefusals.thermal_limits x }
 {
@@ -87,6 +91,7 @@ fn thermal_limits(x: Case) -> bool
 }
 
 // With what the arrangement answered.
+#[tactic(auto, unfolding(crate::specs::FieldRefusals::limit_refused))]
 fn limit_refused(x: Case, its: bool) -> bool
     requires { its ≡ (own x).limits x }
     ensures { result ≡ FieldRefusals.limit_refused x }
@@ -94,6 +99,7 @@ fn limit_refused(x: Case, its: bool) -> bool
     !(conductor_limits(x) & sheath_limits(x) & thermal_limits(x) & its)
 }
 
+#[tactic(auto, unfolding(crate::specs::FieldRefusals::geometry_refused))]
 fn geometry_refused(x: Case, its: bool) -> bool
     requires { its ≡ (own x).geometry x }
     ensures { result ≡ FieldRefusals.geometry_refused x }
@@ -104,6 +110,7 @@ fn geometry_refused(x: Case, its: bool) -> bool
         & its)
 }
 
+#[tactic(auto, unfolding(crate::specs::FieldRefusals::heat_refused))]
 fn heat_refused(x: Case, its: bool) -> bool
     requires { its ≡ (own x).heat x }
     ensures { result ≡ FieldRefusals.heat_refused x }

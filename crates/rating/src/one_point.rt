@@ -29,6 +29,7 @@ impl Formation {
 impl Arrangement for Formation {
     ghost adds = { λ formation. one_point (j_of formation) };
 
+    #[tactic(auto, unfolding(crate::specs::OnePoint::one_point))]
     fn rules(&self, x: Case) -> Rules {
         Rules {
             limits: true,

@@ -20,6 +20,7 @@ use stages::reactance::reactance;
 use stages::sheath::sl_loss;
 use wide::rounding::{Down, Up};
 
+#[tactic(auto, unfolding(crate::specs::SlType::armour_limits))]
 fn armour_limits(x: Case) -> bool
     ensures { result ≡ Spec.armour_limits x }
 {
@@ -52,6 +53,7 @@ pub struct SlType;
 impl Arrangement for SlType {
     ghost adds = { λ _. sl_type };
 
+    #[tactic(auto, unfolding(crate::specs::SlType::sl_type))]
     fn rules(&self, x: Case) -> Rules {
         Rules {
             limits: armour_limits(x),

@@ -47,12 +47,11 @@ pub(crate) fn resistance_of(field: u32, metal: u32, theta: u32) -> u64
     resistance(field, coefficient(metal), theta)
 }
 
-// The first temperature less the second, which is the lower one.
-fn difference(conductor: u32, ambient: u32) -> u64
-    requires { RiseRange (to_z w32 conductor -ℤ to_z w32 ambient) }
-    ensures { result ≡ nat_abs (to_z w32 conductor -ℤ to_z w32 ambient) }
+// The first temperature less the second.
+pub(crate) fn difference(theta: u32, below: u32) -> i64
+    ensures { result ≡ to_z w32 theta -ℤ to_z w32 below }
 {
-    (signed(conductor) - signed(ambient)) as u64
+    signed(theta) - signed(below)
 }
 
 impl SoundCase {
@@ -97,7 +96,7 @@ impl SoundCase {
     pub(crate) fn rise(&self) -> u64
         ensures { result ≡ rise_of self.now.x }
     {
-        difference(self.x[CONDUCTOR_TEMPERATURE], self.x[AMBIENT_TEMPERATURE])
+        difference(self.x[CONDUCTOR_TEMPERATURE], self.x[AMBIENT_TEMPERATURE]) as u64
     }
 
     pub(crate) fn thermal(&self) -> Thermal

@@ -9,6 +9,7 @@ ghost use Rattle.rating.specs.Laws.Steps.{Asks, ChecksFields};
 ghost use Rattle.rating.specs.Within as Within;
 
 use super::arrangement::Rules;
+use super::case::difference;
 use super::refusal::Refusal;
 use fields::{
     AMBIENT_TEMPERATURE, CONDUCTOR, CONDUCTOR_DIAMETER, CONDUCTOR_RESISTANCE,
@@ -43,7 +44,7 @@ pub(crate) fn not_hotter(theta: u32, limit: u32) -> bool
 fn warmer(conductor: u32, ambient: u32) -> bool
     ensures { result ≡ le_z (pos 500) (to_z w32 conductor -ℤ to_z w32 ambient) }
 {
-    500 <= signed(conductor) - signed(ambient)
+    500 <= difference(conductor, ambient)
 }
 
 #[tactic(auto, unfolding(crate::specs::FieldRefusals::conductor_refused))]

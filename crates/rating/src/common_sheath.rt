@@ -26,15 +26,15 @@ impl Arrangement for CommonSheath {
         }
     }
 
-    fn losses(&self, p: &FitCase) -> Losses {
-        let x = &p.case.x;
+    fn losses(&self, fit: &FitCase) -> Losses {
+        let x = &fit.case.x;
         Losses {
             n: 3,
             ra: 0,
             x: 0,
             s: common_loss(
-                p.b,
-                p.rs,
+                fit.b,
+                fit.rs,
                 u64::from(x[AXIS_DISTANCE]),
                 u64::from(x[SHEATH_DIAMETER]),
             ),

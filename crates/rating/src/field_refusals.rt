@@ -1,4 +1,4 @@
-// Refusals 2 to 7, which look at the fields alone: a test for each, and the number of the first that is given.
+// Refusals 2 to 7, which look at the fields alone: a test for each, and the first that is given.
 ghost use Rattle.std.specs.Prelude.{◌≡◌, pos, ◌-ℤ◌};
 ghost use Rattle.std.specs.Int.Signed.{le_z};
 ghost use Rattle.std.specs.Int.{w32};
@@ -19,14 +19,15 @@ use fields::{
 };
 use stages::resistance::signed;
 
-// A field from low to high, the ends included.
+// A field from low to high, the ends included. The library's test has a function of its own, so that at each call its answer is the
+// definition's.
 pub(crate) fn within(low: u32, high: u32, n: u32) -> bool
     ensures { result ≡ Within.within low high n }
 {
     (low..=high).contains(&n)
 }
 
-// A temperature from low to high.
+// A temperature from low to high, likewise.
 pub(crate) fn within_signed(low: i64, high: i64, theta: u32) -> bool
     ensures { result ≡ Within.within_z low high (to_z w32 theta) }
 {
@@ -121,7 +122,7 @@ fn heat_refused(x: Case, its: bool) -> bool
         & its)
 }
 
-#[tactic(auto, unfolding(crate::specs::FieldRefusals::field_refusal, crate::specs::FieldRefusals::arrangement_refused, crate::specs::FieldRefusals::stray_refused, crate::specs::FieldRefusals::metal_refused))]
+// The first that is given, in rising order.
 pub(crate) fn check_fields(x: Case, rules: Rules) -> Result<(), Refusal>
     requires { Asks (own x) x rules }
     ensures { ChecksFields x result }

@@ -41,16 +41,16 @@ impl Arrangement for Formation {
         }
     }
 
-    fn losses(&self, p: &FitCase) -> Losses {
-        let x = &p.case.x;
+    fn losses(&self, fit: &FitCase) -> Losses {
+        let x = &fit.case.x;
         Losses {
             n: 1,
             ra: 0,
             x: 0,
             s: eddy_loss(
                 self.j(),
-                p.b,
-                p.rs,
+                fit.b,
+                fit.rs,
                 u64::from(x[SHEATH_DIAMETER]),
                 u64::from(x[SPACING]),
             ),

@@ -6,10 +6,8 @@ use Rattle.formulas.specs.Constants.{tera}
 use Rattle.formulas.specs.Logarithm.{octaves, first_power, thirteen_terms}
 use Rattle.formulas.proofs.Laws.LogRange.{Bounded, first_power_most, thirteen_terms_most, octaves_most}
 use Rattle.formulas.specs.Laws.Bounds.{most_power, most_terms}
-use Rattle.wide.specs.Laws.Ranges.{QuotientFits}
 use Rattle.stages.specs.Reduced.{IsReduced}
 use Rattle.stages.specs.Laws.Ranges.{LogRanges}
-use Rattle.stages.proofs.Series.{fits}
 
 -- the two summands of an end, with what bounds them
 pub record Parts (round : ℕ → ℕ → ℕ) (a b terms count : ℕ) : Type 0 where
@@ -28,9 +26,6 @@ module _
 
   pub first_most : round (num * trillion) den ≤ most_power
   first_most = le_trans (le_of_eq first_is) (first_power_most bounded a b ranges.octaves.b>0 ranges.octaves.b_most)
-
-  pub first_fits : QuotientFits den (round (num * trillion) den)
-  first_fits = record { c>0 = omega (arith, reduced.den_is); fits = fits first_most }
 
   pub parts :
       {first terms : ℕ} → first ≡ round (num * trillion) den → terms ≡ thirteen_terms round first → Parts round a b terms count

@@ -32,9 +32,6 @@ module _ {round : ℕ → ℕ → ℕ} (bounded : Bounded round) where
 pub fits_up : {a b : ℕ} (k : ℕ) → 0 < b → a ≤ k * b → T (ltb k (2 ^ 64)) → up a b < 2 ^ 64
 fits_up = fits up_bounded
 
-pub fits_down : {a b : ℕ} (k : ℕ) → 0 < b → a ≤ k * b → T (ltb k (2 ^ 64)) → down a b < 2 ^ 64
-fits_down = fits down_bounded
-
 pub quotient_up_fits : {a b : ℕ} (k : ℕ) → 0 < b → a ≤ k * b → T (ltb k (2 ^ 64)) → QuotientFits b (up a b)
 quotient_up_fits = quotient up_bounded
 

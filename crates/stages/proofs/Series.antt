@@ -1,13 +1,11 @@
--- The thirteen terms of stage 5 as the loop adds them: what holds before each turn, that a turn keeps it, and that the loop may end
--- sooner at a power that stays what it is. Assumes nothing.
-use Rattle.std.proofs.Common.{◌≡◌, sym, ap, subst, ◌∙◌, ℕ, zero, suc, ◌+◌, ◌-◌, ◌*◌, ◌^◌, ◌≤◌, ◌<◌, zero-add, le_trans}
+-- The thirteen terms of stage 5 as the loop adds them: what holds before each turn, and that a turn keeps it. Assumes nothing.
+use Rattle.std.proofs.Common.{◌≡◌, ap, subst, ◌∙◌, ℕ, zero, suc, ◌+◌, ◌-◌, ◌*◌, ◌^◌, ◌≤◌, ◌<◌, zero-add, le_trans}
 use Rattle.std.proofs.Common.{lt_of_le_of_lt, arith, lit<, lit≤}
 use Rattle.exact.specs.Trillion.{trillion}
 use Rattle.formulas.specs.Constants.{tera}
 use Rattle.formulas.specs.Logarithm.{series, thirteen_terms}
 use Rattle.formulas.proofs.Laws.LogRange.{Bounded, power_most, term_most}
 use Rattle.formulas.specs.Laws.Bounds.{most_power}
-use Rattle.stages.specs.Laws.Ends.{LogLaws}
 
 -- before term j the sum and the terms that are left make the whole, and every number is small
 pub record Summed (round : ℕ → ℕ → ℕ) (first q p sum j : ℕ) : Type 0 where
@@ -38,10 +36,6 @@ module _ {round : ℕ → ℕ → ℕ} (bounded : Bounded round) where
         passed = omega arith;
         alive = λ j>0. absurd (omega (arith, j>0));
       }
-
-  -- the next power fits a limb
-  pub next_fits : {first q p sum j : ℕ} → Summed round first q p sum j → round (p * q) trillion < 2 ^ 64
-  next_fits {q = q} {p} s = fits (product_most p q s.power s.ratio)
 
   -- a power above 0 is not made by a ratio of 0
   ratio_above : (p q : ℕ) → 0 < round (p * q) trillion → 0 < q
@@ -80,16 +74,3 @@ unfolding series
 done {round} {q = q} {p} {j = j} s h =
     let none : 13 - j ≡ 0 = omega arith in
     omega (arith, ap (λ n. series round q n j p) none)
-
--- and so do the terms that are left where the power is one that stays
-pub ended :
-    {round log : ℕ → ℕ → ℕ} {left_out ln2 still first q p sum j : ℕ} → LogLaws round log left_out ln2 still →
-    Summed round first q p sum j → p ≡ still → 0 < j → sum + still * (13 - j) ≡ thirteen_terms round first
-ended {round} {still = still} {q = q} {p} {j = j} laws s stays j>0 =
-    let alive : 0 < still → 0 < q = λ still>0. s.alive j>0 (subst (λ n. 0 < n) (sym stays) still>0) in
-    omega (
-      arith,
-      s.whole,
-      ap (λ p. series round q (13 - j) j p) stays,
-      laws.still_rest q (13 - j) j alive (omega (arith, s.ratio)) j>0,
-    )

@@ -26,7 +26,8 @@ use wide::trillion::{T, mul_div_trillion};
 // The largest Rs that the first formula is for.
 const FIRST_FORMULA_LIMIT: u64 = 1_000_000_000_000;
 
-// (2c/d)², which stage 8 has too.
+// (2c/d)², which stage 8 has too. Stages 4 and 7 have a square of a ratio as well; each is one quotient with factors of its own,
+// and a function for all would be no shorter than they are.
 pub fn axis_ratio(c: u64, d: u64) -> u64
     requires { AxisRanges c d }
     ensures { result ≡ axis_ratio c d }

@@ -1,6 +1,6 @@
-// The two ends between which a value lies whose logarithm or pi is not a whole number of parts: every quotient of the lower end
-// is rounded down, and every one of the upper end up (docs/RATING.md, 'Notation' and stages 2, 5 and 6). So an end is a rounding
-// with the constants of its side, and the stages that have two ends are one function with a parameter `R: End`.
+// The two ends of pi, of a logarithm and of what the stages make of them (docs/RATING.md, 'Notation' and stages 2, 5 and 6): the
+// lower end rounds every quotient down, the upper one up. So an end is a rounding with the constants of its side, and a stage
+// that has two ends is one function with a parameter `R: End`.
 ghost use Rattle.std.specs.Prelude.{ℕ, ◌*◌, ◌≤◌, ◌<◌};
 ghost use Rattle.formulas.specs.Logarithm.{log_low, log_high};
 ghost use Rattle.formulas.specs.Reactance.{reactance, reactance_low};
@@ -36,15 +36,15 @@ pub trait End: Rounding {
     // A third of it, over T.
     const LN2_THIRD: u64;
 
-    ghost LEFT_OUT: { ℕ };
+    ghost REMAINDER: { ℕ };
 
     // What the terms after the thirteenth add to a logarithm at most, over T.
-    const LEFT_OUT: u64;
+    const REMAINDER: u64;
 
-    ghost STILL: { ℕ };
+    ghost FIXED_POWER: { ℕ };
 
-    // The power that stays what it is from term to term; each of its terms after the first is as large as it is.
-    const STILL: u64;
+    // The power that the next one repeats. Each of its terms after the first is as large as the power.
+    const FIXED_POWER: u64;
 
     ghost reactance: { ℕ → ℕ };
 
@@ -58,7 +58,7 @@ pub trait End: Rounding {
 
     ghost reactance_laws: { ReactanceLaws Self.round reactance PI };
 
-    ghost log_laws: { LogLaws Self.round log LEFT_OUT LN2 STILL };
+    ghost log_laws: { LogLaws Self.round log REMAINDER LN2 FIXED_POWER };
 
     ghost spacing_laws: { SpacingLaws Self.round log spacing_log sheath_reactance LN2_THIRD };
 }
@@ -76,13 +76,13 @@ impl End for Down {
 
     const LN2_THIRD: u64 = 231049060186;
 
-    ghost LEFT_OUT = { 0 };
+    ghost REMAINDER = { 0 };
 
-    const LEFT_OUT: u64 = 0;
+    const REMAINDER: u64 = 0;
 
-    ghost STILL = { 0 };
+    ghost FIXED_POWER = { 0 };
 
-    const STILL: u64 = 0;
+    const FIXED_POWER: u64 = 0;
 
     ghost reactance = { reactance_low };
 
@@ -114,13 +114,13 @@ impl End for Up {
 
     const LN2_THIRD: u64 = 231049060187;
 
-    ghost LEFT_OUT = { 1 };
+    ghost REMAINDER = { 1 };
 
-    const LEFT_OUT: u64 = 1;
+    const REMAINDER: u64 = 1;
 
-    ghost STILL = { 1 };
+    ghost FIXED_POWER = { 1 };
 
-    const STILL: u64 = 1;
+    const FIXED_POWER: u64 = 1;
 
     ghost reactance = { reactance };
 

@@ -31,7 +31,7 @@ fn reduce(a: u64, b: u64) -> Reduced
     }
 }
 
-// A power that stays what it is ends the loop: each term that is left is as large as it is.
+// The fixed power ends the sum sooner: each term that is left is as large as the power.
 fn thirteen_terms<R: End>(first: u64) -> u64
     requires { first ≤ most_power }
     ensures { result ≡ thirteen_terms R.round first }
@@ -40,8 +40,8 @@ fn thirteen_terms<R: End>(first: u64) -> u64
     let mut p = first;
     let mut sum: u64 = 0;
     for j in 0..13 {
-        if (p == R::STILL) & (0 < j) {
-            return sum + R::STILL * (13 - j);
+        if (p == R::FIXED_POWER) & (0 < j) {
+            return sum + R::FIXED_POWER * (13 - j);
         }
         sum += rounded::<R>(2 * p, 2 * j + 1);
         p = mul_div_trillion::<R>(p, q);
@@ -55,5 +55,5 @@ pub fn log<R: End>(a: u64, b: u64) -> u64
 {
     let z = reduce(a, b);
     let terms = thirteen_terms::<R>(mul_div::<R>(z.num, T, z.den));
-    terms + R::LEFT_OUT + R::LN2 * u64::from(z.octaves)
+    terms + R::REMAINDER + R::LN2 * u64::from(z.octaves)
 }

@@ -7,7 +7,8 @@ use super::ends::End;
 use super::logarithm::log;
 use wide::trillion::mul_div_trillion;
 
-// An end of the logarithm with that of a third of ln 2, which arrangement 2 alone adds.
+// An end of the logarithm with that of a third of ln 2, which arrangement 2 alone adds. The number is the case's word, as C hands
+// it over.
 fn with_third(arrangement: u32, log: u64, third: u64) -> u64
     requires { ThirdRanges log third }
     ensures { result ≡ log + third_of arrangement third }

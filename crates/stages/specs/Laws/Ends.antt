@@ -25,16 +25,15 @@ pub reactance_low_laws : ReactanceLaws down reactance_low 31415926535
 unfolding reactance_low pi_low
 reactance_low_laws = record { reactance_is = λ f. refl; pi_most = lit≤ tt }
 
--- Stage 5. A power that is `still` stays so, and each of its terms after the first is `still` too; it is 0, unless it was made by a
--- ratio above 0.
+-- Stage 5. The next power of `fixed` is `fixed` again, and so is each of its terms after the first, if it is 0 or the ratio is above 0.
 
-pub record LogLaws (round log : ℕ → ℕ → ℕ) (left_out ln2 still : ℕ) : Type 0 where
-  pub log_is : (a b : ℕ) → log a b ≡ thirteen_terms round (first_power round a b) + left_out + ln2 * octaves a b
+pub record LogLaws (round log : ℕ → ℕ → ℕ) (remainder ln2 fixed : ℕ) : Type 0 where
+  pub log_is : (a b : ℕ) → log a b ≡ thirteen_terms round (first_power round a b) + remainder + ln2 * octaves a b
   pub log_most : (a b : ℕ) → 0 < b → b ≤ a → a < 32768 * b → log a b ≤ most_log
-  pub left_out_most : left_out ≤ 1
+  pub remainder_most : remainder ≤ 1
   pub ln2_most : ln2 ≤ 693147180560
-  pub still_most : still ≤ 1
-  pub still_rest : (q n j : ℕ) → (0 < still → 0 < q) → q ≤ trillion → 0 < j → series round q n j still ≡ still * n
+  pub fixed_most : fixed ≤ 1
+  pub fixed_terms : (q n j : ℕ) → (0 < fixed → 0 < q) → q ≤ trillion → 0 < j → series round q n j fixed ≡ fixed * n
 
 ones_left : (q n j : ℕ) → (0 < 1 → 0 < q) → q ≤ trillion → 0 < j → series up q n j 1 ≡ 1 * n
 unfolding series tera
@@ -58,10 +57,10 @@ log_high_laws =
     record {
       log_is = λ a b. refl;
       log_most = log_high_most;
-      left_out_most = lit≤ tt;
+      remainder_most = lit≤ tt;
       ln2_most = lit≤ tt;
-      still_most = lit≤ tt;
-      still_rest = ones_left;
+      fixed_most = lit≤ tt;
+      fixed_terms = ones_left;
     }
 
 pub log_low_laws : LogLaws down log_low 0 693147180559 0
@@ -70,10 +69,10 @@ log_low_laws =
     record {
       log_is = λ a b. omega arith;
       log_most = log_low_most;
-      left_out_most = lit≤ tt;
+      remainder_most = lit≤ tt;
       ln2_most = lit≤ tt;
-      still_most = lit≤ tt;
-      still_rest = none_left;
+      fixed_most = lit≤ tt;
+      fixed_terms = none_left;
     }
 
 -- Stage 6, with an end of a third of ln 2.

@@ -16,14 +16,6 @@ pub mul_div-requires : goal.mul_div-requires
 mul_div-requires c =
     quotient_up_fits most_dielectric_loss (omega arith) (omega (arith, mul-le-mul (product_most c) c.requires.b_most)) tt
 
-pub overflow_mul-u0 : goal.overflow_mul-u0
-unfolding dielectric_loss
-overflow_mul-u0 c = omega (arith, mul-le-mul c.requires.u0_most c.requires.u0_most)
-
-pub overflow_mul-e : goal.overflow_mul-e
-unfolding dielectric_loss
-overflow_mul-e c = omega (arith, voltage_most c)
-
 pub overflow_mul-e-2 : goal.overflow_mul-e-2
 unfolding dielectric_loss
 overflow_mul-e-2 c = omega (arith, product_most c)

@@ -1,5 +1,5 @@
--- `stages::logarithm::thirteen_terms` meets its contract: its loop is the one of Series.antt, and ends sooner where the power stays
--- what it is. Assumes nothing.
+-- `stages::logarithm::thirteen_terms` meets its contract: its loop is the one of Series.antt, and what `End` says of the fixed
+-- power lets it end sooner. Assumes nothing.
 use Rattle.stages.proofs.Series.{Summed}
 use Rattle.stages.proofs.logarithm.thirteen_terms.Given as goal
 

@@ -10,14 +10,6 @@ pub mul_div-requires : goal.mul_div-requires
 mul_div-requires c = let s²>0 = mul-pos c.requires.s>0 c.requires.s>0 in
     quotient_up_fits trillion s²>0 (omega (arith, mul-le-mul c.requires.apart c.requires.apart)) tt
 
-pub overflow_mul-dc : goal.overflow_mul-dc
-unfolding spacing_ratio tera
-overflow_mul-dc c = omega (arith, mul-le-mul c.requires.apart c.requires.apart, mul-le-mul c.requires.s_most c.requires.s_most)
-
-pub overflow_mul-s : goal.overflow_mul-s
-unfolding spacing_ratio tera
-overflow_mul-s c = omega (arith, mul-le-mul c.requires.s_most c.requires.s_most)
-
 pub returns : goal.returns
 unfolding spacing_ratio tera
 returns c = c.mul_div.ensures

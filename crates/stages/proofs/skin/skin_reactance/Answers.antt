@@ -1,12 +1,9 @@
 -- `stages::skin::skin_reactance` is the definition, as the library rounds up.
-use Rattle.std.proofs.Common.{arith, lit<, mul-le-mul, ◌*◌, ◌∙◌}
+use Rattle.std.proofs.Common.{lit<, ◌*◌, ◌∙◌}
 use Rattle.formulas.specs.Constants.{pi_high}
 use Rattle.formulas.specs.Skin.{skin_reactance}
 use Rattle.stages.proofs.Quotients.{ceiling}
 use Rattle.stages.proofs.skin.skin_reactance.Goals as goal
-
-pub overflow_mul-f-2 : goal.overflow_mul-f-2
-overflow_mul-f-2 c = omega (arith, mul-le-mul c.requires.f_most c.requires.k_most)
 
 pub returns : goal.returns
 unfolding skin_reactance pi_high

@@ -44,9 +44,9 @@ pub trait Arrangement {
     fn rules(&self, x: Case) -> Rules
         ensures { Asks (adds self.now) x result };
 
-    fn losses(&self, p: &FitCase) -> Losses
-        requires { own p.now.case.x ≡ adds self.now }
-        ensures { Loses (adds self.now) p.now.case.x result };
+    fn losses(&self, fit: &FitCase) -> Losses
+        requires { own fit.now.case.x ≡ adds self.now }
+        ensures { Loses (adds self.now) fit.now.case.x result };
 }
 
 // The arrangements by their numbers.
@@ -76,7 +76,8 @@ impl TryFrom<u32> for Kind {
     }
 }
 
-// Two matches in place of a generic function for each kind: `rate` then has one caller of each step, which the compiler draws in.
+// Matched here, and no type parameter of the steps: a version with a caller of the steps for each kind took 467 ns where `rate` had taken
+// 443.
 impl Arrangement for Kind {
     ghost adds = { arrangement_as };
 
@@ -89,17 +90,18 @@ impl Arrangement for Kind {
         }
     }
 
-    fn losses(&self, p: &FitCase) -> Losses {
+    fn losses(&self, fit: &FitCase) -> Losses {
         match self {
-            Kind::BothEnds => BothEnds.losses(p),
-            Kind::OnePoint(formation) => formation.losses(p),
-            Kind::SlType => SlType.losses(p),
-            Kind::CommonSheath => CommonSheath.losses(p),
+            Kind::BothEnds => BothEnds.losses(fit),
+            Kind::OnePoint(formation) => formation.losses(fit),
+            Kind::SlType => SlType.losses(fit),
+            Kind::CommonSheath => CommonSheath.losses(fit),
         }
     }
 }
 
 // The limits of c in a cable of three cores.
+#[tactic(auto, unfolding(crate::specs::Arrangement::axis_limits))]
 pub(crate) fn axis_limits(x: Case) -> bool
     ensures { result ≡ Spec.axis_limits x }
 {
@@ -107,6 +109,7 @@ pub(crate) fn axis_limits(x: Case) -> bool
 }
 
 // Fields 17, 18, 19 and 21 are zero.
+#[tactic(auto, unfolding(crate::specs::Arrangement::no_armour))]
 pub(crate) fn no_armour(x: Case) -> bool
     ensures { result ≡ Spec.no_armour x }
 {
@@ -117,6 +120,7 @@ pub(crate) fn no_armour(x: Case) -> bool
 }
 
 // Fields 17 to 21 are all zero.
+#[tactic(auto, unfolding(crate::specs::Arrangement::armourless))]
 pub(crate) fn armourless(x: Case) -> bool
     ensures { result ≡ Spec.armourless x }
 {

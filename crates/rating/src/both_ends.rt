@@ -13,6 +13,7 @@ pub struct BothEnds;
 impl Arrangement for BothEnds {
     ghost adds = { λ _. both_ends };
 
+    #[tactic(auto, unfolding(crate::specs::BothEnds::both_ends))]
     fn rules(&self, x: Case) -> Rules {
         Rules {
             limits: true,
@@ -24,13 +25,13 @@ impl Arrangement for BothEnds {
         }
     }
 
-    fn losses(&self, p: &FitCase) -> Losses {
-        let reactance = p.sheath_reactance::<Up>(p.b);
+    fn losses(&self, fit: &FitCase) -> Losses {
+        let reactance = fit.sheath_reactance::<Up>(fit.b);
         Losses {
             n: 1,
             ra: 0,
             x: reactance,
-            s: circulating_loss(reactance, p.rs),
+            s: circulating_loss(reactance, fit.rs),
             w: 0,
         }
     }

@@ -47,12 +47,11 @@ pub(crate) fn resistance_of(field: u32, metal: u32, theta: u32) -> u64
     resistance(field, coefficient(metal), theta)
 }
 
-// The first temperature less the second, which is the lower one.
-fn difference(conductor: u32, ambient: u32) -> u64
-    requires { RiseRange (to_z w32 conductor -ℤ to_z w32 ambient) }
-    ensures { result ≡ nat_abs (to_z w32 conductor -ℤ to_z w32 ambient) }
+// The first temperature less the second.
+pub(crate) fn difference(theta: u32, below: u32) -> i64
+    ensures { result ≡ to_z w32 theta -ℤ to_z w32 below }
 {
-    (signed(conductor) - signed(ambient)) as u64
+    signed(theta) - signed(below)
 }
 
 impl SoundCase {
@@ -66,6 +65,7 @@ impl SoundCase {
         )
     }
 
+    #[tactic(auto, unfolding(crate::specs::Values::Rs))]
     pub(crate) fn sheath_resistance(&self) -> u64
         ensures { result ≡ Rs self.now.x }
     {
@@ -76,6 +76,7 @@ impl SoundCase {
         )
     }
 
+    #[tactic(auto, unfolding(crate::specs::Values::B))]
     pub(crate) fn reactance(&self) -> u64
         ensures { result ≡ B self.now.x }
     {
@@ -91,10 +92,11 @@ impl SoundCase {
         skin_ratio(u64::from(self.x[FREQUENCY]), u64::from(k), rc)
     }
 
+    #[tactic(auto, unfolding(crate::specs::Values::rise_of))]
     pub(crate) fn rise(&self) -> u64
         ensures { result ≡ rise_of self.now.x }
     {
-        difference(self.x[CONDUCTOR_TEMPERATURE], self.x[AMBIENT_TEMPERATURE])
+        difference(self.x[CONDUCTOR_TEMPERATURE], self.x[AMBIENT_TEMPERATURE]) as u64
     }
 
     pub(crate) fn thermal(&self) -> Thermal

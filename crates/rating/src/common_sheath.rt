@@ -13,6 +13,7 @@ impl Arrangement for CommonSheath {
     ghost adds = { λ _. common_sheath };
 
     // The spacing is of cores within the sheath, and may be less than its diameter.
+    #[tactic(auto, unfolding(crate::specs::CommonSheath::common_sheath))]
     fn rules(&self, x: Case) -> Rules {
         Rules {
             limits: axis_limits(x),
@@ -25,15 +26,15 @@ impl Arrangement for CommonSheath {
         }
     }
 
-    fn losses(&self, p: &FitCase) -> Losses {
-        let x = &p.case.x;
+    fn losses(&self, fit: &FitCase) -> Losses {
+        let x = &fit.case.x;
         Losses {
             n: 3,
             ra: 0,
             x: 0,
             s: common_loss(
-                p.b,
-                p.rs,
+                fit.b,
+                fit.rs,
                 u64::from(x[AXIS_DISTANCE]),
                 u64::from(x[SHEATH_DIAMETER]),
             ),

@@ -1,4 +1,4 @@
-// Refusals 8 and 9 on a case that 1 to 7 let pass, and the values that every arrangement shares, where neither of them is given.
+// Refusals 8 and 9 on a case that 1 to 7 let pass; and a case that 1 to 9 let pass, with the values that every arrangement shares.
 ghost use Rattle.std.specs.Prelude.{◌≡◌, IfOk, IfErr};
 ghost use Rattle.rating.specs.Arrangements.{own};
 ghost use Rattle.rating.specs.Laws.Fit.{Fit};
@@ -15,7 +15,7 @@ use tables::{kp, ks};
 // The largest z that refusal 8 lets pass.
 const SKIN_LIMIT: u64 = 7_840_000_000_000;
 
-// A case that refusals 1 to 9 let pass, with what every arrangement shares: R', B, Rs, ys, yp, R and Wd.
+// The values are R', B, Rs, ys, yp, R and Wd. `answer`: refusals 10 and 11 are all that is left to try.
 #[derive(Clone, Copy)]
 pub struct FitCase {
     pub case: SoundCase,

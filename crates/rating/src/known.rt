@@ -1,4 +1,4 @@
-// A case whose arrangement is known, so that refusal 1 is not given: what its arrangement asks of the fields, and refusals 2 to 7.
+// A case whose arrangement is known, since refusal 1 lets it pass; and refusals 2 to 7 of it, with what its arrangement asks.
 ghost use Rattle.std.specs.Prelude.{◌≡◌, IfOk, IfErr};
 ghost use Rattle.rating.specs.Arrangements.{own};
 ghost use Rattle.rating.specs.Kind.{arrangement_as};
@@ -18,6 +18,7 @@ pub struct KnownCase {
 }
 
 impl KnownCase {
+    #[tactic(auto, using(crate::proofs::Refused::none_has))]
     pub(crate) fn of(x: Case) -> Result<KnownCase, Refusal>
         ensures same { IfOk result (λ known. known.x ≡ x) }
         ensures refused { IfErr result (Refuses x) }
@@ -26,6 +27,7 @@ impl KnownCase {
         Ok(KnownCase { x, kind })
     }
 
+    #[tactic(auto, using(crate::proofs::Refused::fields_refused))]
     pub(crate) fn checked(self) -> Result<SoundCase, Refusal>
         ensures same { IfOk result (λ sound. sound.x ≡ self.x) }
         ensures refused { IfErr result (Refuses self.x) }

@@ -1,4 +1,4 @@
-// Stages 7 to 10 on a case that refusals 1 to 9 let pass: the losses of its arrangement, and refusals 10 and 11, or the rating and the sheet.
+// Stage 10 on a case that refusals 1 to 9 let pass: refusals 10 and 11, or the rating and the sheet.
 ghost use Rattle.std.specs.Prelude.{◌≡◌};
 ghost use Rattle.rating.specs.Arrangements.{own};
 ghost use Rattle.rating.specs.Laws.Steps.{Loses, Warms};

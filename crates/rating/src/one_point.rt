@@ -29,6 +29,7 @@ impl Formation {
 impl Arrangement for Formation {
     ghost adds = { λ formation. one_point (j_of formation) };
 
+    #[tactic(auto, unfolding(crate::specs::OnePoint::one_point))]
     fn rules(&self, x: Case) -> Rules {
         Rules {
             limits: true,
@@ -40,16 +41,16 @@ impl Arrangement for Formation {
         }
     }
 
-    fn losses(&self, p: &FitCase) -> Losses {
-        let x = &p.case.x;
+    fn losses(&self, fit: &FitCase) -> Losses {
+        let x = &fit.case.x;
         Losses {
             n: 1,
             ra: 0,
             x: 0,
             s: eddy_loss(
                 self.j(),
-                p.b,
-                p.rs,
+                fit.b,
+                fit.rs,
                 u64::from(x[SHEATH_DIAMETER]),
                 u64::from(x[SPACING]),
             ),

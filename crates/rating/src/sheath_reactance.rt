@@ -1,4 +1,5 @@
-// Stage 6 on a case whose sheaths do not overlap: an end of the sheath's reactance from the same end of B. From above it is X, from below X-.
+// Stage 6 on a case whose sheaths do not overlap: an end of the sheath's reactance from the same end of B. From above it is X, and from
+// below X-.
 ghost use Rattle.std.specs.Prelude.{◌≡◌};
 ghost use Rattle.fields.specs.Fields as Field;
 ghost use Rattle.rating.specs.Laws.Steps.{SheathReactanceTakes};

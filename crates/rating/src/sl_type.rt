@@ -20,6 +20,7 @@ use stages::reactance::reactance;
 use stages::sheath::sl_loss;
 use wide::rounding::{Down, Up};
 
+#[tactic(auto, unfolding(crate::specs::SlType::armour_limits))]
 fn armour_limits(x: Case) -> bool
     ensures { result ≡ Spec.armour_limits x }
 {
@@ -30,20 +31,20 @@ fn armour_limits(x: Case) -> bool
         & within(100, 50000, x[ARMOUR_DIAMETER])
 }
 
-fn armour_loss(p: &FitCase, ra: u64) -> u64
-    requires own_is { own p.now.case.x ≡ sl_type }
-    requires ra_is { ra ≡ RA p.now.case.x }
-    ensures { let x = p.now.case.x in
+fn armour_loss(fit: &FitCase, ra: u64) -> u64
+    requires own_is { own fit.now.case.x ≡ sl_type }
+    requires ra_is { ra ≡ RA fit.now.case.x }
+    ensures { let x = fit.now.case.x in
         result ≡ armour_loss (RA x) (B x) (axis_distance x) (armour_diameter x) (XLow x) (Rs x) }
 {
     let unscreened = unscreened_loss(
         ra,
-        p.b,
-        u64::from(p.case.x[AXIS_DISTANCE]),
-        u64::from(p.case.x[ARMOUR_DIAMETER]),
+        fit.b,
+        u64::from(fit.case.x[AXIS_DISTANCE]),
+        u64::from(fit.case.x[ARMOUR_DIAMETER]),
     );
-    let b_low = reactance::<Down>(u64::from(p.case.x[FREQUENCY]));
-    screened_loss(unscreened, p.sheath_reactance::<Down>(b_low), p.rs)
+    let b_low = reactance::<Down>(u64::from(fit.case.x[FREQUENCY]));
+    screened_loss(unscreened, fit.sheath_reactance::<Down>(b_low), fit.rs)
 }
 
 #[derive(Clone, Copy)]
@@ -52,6 +53,7 @@ pub struct SlType;
 impl Arrangement for SlType {
     ghost adds = { λ _. sl_type };
 
+    #[tactic(auto, unfolding(crate::specs::SlType::sl_type))]
     fn rules(&self, x: Case) -> Rules {
         Rules {
             limits: armour_limits(x),
@@ -64,16 +66,16 @@ impl Arrangement for SlType {
         }
     }
 
-    fn losses(&self, p: &FitCase) -> Losses {
-        let x = &p.case.x;
+    fn losses(&self, fit: &FitCase) -> Losses {
+        let x = &fit.case.x;
         let ra = resistance_of(x[ARMOUR_RESISTANCE], x[ARMOUR_METAL], x[ARMOUR_TEMPERATURE]);
-        let reactance = p.sheath_reactance::<Up>(p.b);
+        let reactance = fit.sheath_reactance::<Up>(fit.b);
         Losses {
             n: 3,
             ra,
             x: reactance,
-            s: sl_loss(reactance, p.rs),
-            w: armour_loss(p, ra),
+            s: sl_loss(reactance, fit.rs),
+            w: armour_loss(fit, ra),
         }
     }
 }

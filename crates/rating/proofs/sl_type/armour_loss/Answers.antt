@@ -16,24 +16,24 @@ use Rattle.rating.proofs.sl_type.armour_loss.Goals.{After-unscreened_loss-unscre
 
 unscreened_is :
     (c : After-unscreened_loss-unscreened) →
-    let x = c.args.p.now.case.x in
+    let x = c.args.fit.now.case.x in
     c.unscreened_loss-unscreened.result ≡ unscreened_loss (RA x) (B x) (Field.axis_distance x) (Field.armour_diameter x)
 unscreened_is c =
     let ra = c.requires.ra_is in
-    let b = c.args.p.now.b_is in
+    let b = c.args.fit.now.b_is in
     let d = c.from.ensures in
     let dA = c.from-2.ensures in
     c.unscreened_loss-unscreened.ensures ∙ (λ i. unscreened_loss (ra i) (b i) (d i) (dA i))
 
 pub unscreened_loss-unscreened-requires : goal.unscreened_loss-unscreened-requires
 unscreened_loss-unscreened-requires c =
-    let fit : Fit sl_type c.args.p.now.case.x = fits c.requires.own_is c.args.p.now.fit in
-    let known : Armoured c.args.p.now.case.x = armoured fit in
+    let fit : Fit sl_type c.args.fit.now.case.x = fits c.requires.own_is c.args.fit.now.fit in
+    let known : Armoured c.args.fit.now.case.x = armoured fit in
     record {
       reduced =
           record {
             ra_most = omega (arith, c.requires.ra_is, RA_range fit);
-            b_least = omega (arith, c.args.p.now.b_is, B_range fit.sound);
+            b_least = omega (arith, c.args.fit.now.b_is, B_range fit.sound);
           };
       axis =
           record {
@@ -44,22 +44,22 @@ unscreened_loss-unscreened-requires c =
     }
 
 b_low_is :
-    (c : After-reactance-b_low) → c.reactance-b_low.result ≡ reactance_low (Field.frequency c.args.p.now.case.x)
+    (c : After-reactance-b_low) → c.reactance-b_low.result ≡ reactance_low (Field.frequency c.args.fit.now.case.x)
 b_low_is c = c.reactance-b_low.ensures ∙ ap reactance_low c.from-3.ensures
 
 pub reactance-b_low-requires : goal.reactance-b_low-requires
-reactance-b_low-requires c = omega (arith, c.from-3.ensures, c.args.p.now.fit.sound.frequency)
+reactance-b_low-requires c = omega (arith, c.from-3.ensures, c.args.fit.now.fit.sound.frequency)
 
 pub sheath_reactance-requires : goal.sheath_reactance-requires
 sheath_reactance-requires c =
-    let fit = c.args.p.now.fit in
+    let fit = c.args.fit.now.fit in
     low_takes fit.sound (armoured (fits c.requires.own_is fit)).apart
     (b_low_is (goal.at.sheath_reactance-requires c).After-reactance-b_low)
 
 pub screened_loss-requires : goal.screened_loss-requires
 screened_loss-requires c =
-    let x = c.args.p.now.case.x in
-    let fit : Fit sl_type x = fits c.requires.own_is c.args.p.now.fit in
+    let x = c.args.fit.now.case.x in
+    let fit : Fit sl_type x = fits c.requires.own_is c.args.fit.now.fit in
     let known : Armoured x = armoured fit in
     let dA>0 : 0 < Field.armour_diameter x = omega (arith, known.diameter) in
     let b_low = b_low_is (goal.at.screened_loss-requires c).After-reactance-b_low in
@@ -74,7 +74,7 @@ screened_loss-requires c =
       ratio =
           record {
             x_most = omega (arith, x_low, X_low_range fit.sound known.apart);
-            rs_least = omega (arith, c.args.p.now.rs_is, Rs_range fit.sound);
+            rs_least = omega (arith, c.args.fit.now.rs_is, Rs_range fit.sound);
           };
     }
 
@@ -83,6 +83,6 @@ unfolding armour_loss
 returns c =
     let w = unscreened_is (goal.at.returns c).After-unscreened_loss-unscreened in
     let b_low = b_low_is (goal.at.returns c).After-reactance-b_low in
-    let x = XLow_is c.args.p.now.case.x b_low c.sheath_reactance.ensures in
-    let rs = c.args.p.now.rs_is in
+    let x = XLow_is c.args.fit.now.case.x b_low c.sheath_reactance.ensures in
+    let rs = c.args.fit.now.rs_is in
     c.screened_loss.ensures ∙ (λ i. screened_loss (w i) (x i) (rs i))

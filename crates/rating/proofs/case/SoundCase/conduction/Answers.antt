@@ -34,18 +34,10 @@ yp_is :
 unfolding yp
 yp_is c u g = c.proximity_factor-yp.ensures ∙ (λ i. proximity_factor (u i) (g i))
 
-pub factor-ys-requires : goal.factor-ys-requires
-factor-ys-requires c = omega (arith, c.requires.skin_is, c.requires.fit.skin)
-
 pub spacing_ratio-u-requires : goal.spacing_ratio-u-requires
 spacing_ratio-u-requires c =
     let fit = c.requires.fit in
     omega (arith, c.from-2.ensures, c.from.ensures, fit.sound.spacing, spaced fit)
-
-pub factor-requires : goal.factor-requires
-factor-requires c =
-    let pre = c.requires in
-    omega (arith, pre.proximity_is, pre.fit.proximity)
 
 pub proximity_factor-yp-requires : goal.proximity_factor-yp-requires
 proximity_factor-yp-requires c =

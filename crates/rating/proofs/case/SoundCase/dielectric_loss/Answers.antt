@@ -17,12 +17,6 @@ log_is c =
     let ds = c.from-5.ensures in
     c.log.ensures ∙ (λ i. log_low (di i) (ds i))
 
-pub log-requires : goal.log-requires
-log-requires c =
-    let fine = c.args.self.now.sound in
-    omega
-    (arith, c.from-5.ensures, c.from-4.ensures, fine.insulation_diameter, fine.screen_diameter, fine.insulated)
-
 pub dielectric_loss-requires : goal.dielectric_loss-requires
 dielectric_loss-requires c =
     let fine = c.args.self.now.sound in

@@ -1,6 +1,5 @@
 -- `skin_ratio` is the definition.
-use Rattle.std.proofs.Common.{arith, ◌∙◌}
-use Rattle.formulas.specs.Skin.{skin_ratio}
+use Rattle.std.proofs.Common.{arith}
 use Rattle.rating.proofs.Laws.Ranges.{R'_range}
 use Rattle.rating.proofs.case.SoundCase.skin_ratio.Goals as goal
 
@@ -15,10 +14,3 @@ skin_ratio-requires c =
           };
       rc_least = omega (arith, c.requires.rc_is, R'_range fine);
     }
-
-pub returns : goal.returns
-returns c =
-    let f = c.from.ensures in
-    let k = c.from-2.ensures in
-    let rc = c.requires.rc_is in
-    c.skin_ratio.ensures ∙ (λ i. skin_ratio (f i) (k i) (rc i))

@@ -11,7 +11,7 @@ use Rattle.rating.proofs.common_sheath.CommonSheathArrangement.losses.Goals as g
 
 pub common_loss-requires : goal.common_loss-requires
 common_loss-requires c =
-    let p = c.args.p.now in
+    let p = c.args.fit.now in
     let fit : Fit common_sheath p.case.x = fits c.requires p.fit in
     let cores : Enclosed p.case.x = enclosed fit in
     let axis = c.from.ensures in
@@ -31,7 +31,7 @@ common_loss-requires c =
 pub returns : goal.returns
 unfolding common_sheath
 returns c =
-    let p = c.args.p.now in
+    let p = c.args.fit.now in
     let b = p.b_is in
     let rs = p.rs_is in
     let axis = c.from.ensures in

@@ -18,7 +18,7 @@ j_most Flat = lit≤ tt
 
 pub eddy_loss-requires : goal.eddy_loss-requires
 eddy_loss-requires c =
-    let p = c.args.p.now in
+    let p = c.args.fit.now in
     let fit : Fit (one_point (j_of c.args.self.now)) p.case.x = fits c.requires p.fit in
     let rs = Rs_range fit.sound in
     let apart = one_point_apart (j_of c.args.self.now) fit in
@@ -42,7 +42,7 @@ pub returns : goal.returns
 unfolding one_point
 returns c =
     let j = c.j.ensures in
-    let p = c.args.p.now in
+    let p = c.args.fit.now in
     let b = p.b_is in
     let rs = p.rs_is in
     let d = c.from.ensures in

@@ -1,5 +1,6 @@
 -- A number in decimal, as ASCII bytes without leading zeros or at a fixed count of digits, and numbers on a line. Assumes nothing.
-use Rattle.std.specs.Prelude.{cond, List, [], ◌∷◌, ◌++◌, ℕ, zero, suc, ◌+◌, ◌/◌, ◌%◌, ltb}
+use Rattle.std.specs.Prelude.{cond, List, [], ◌∷◌, ◌++◌, ◌≡◌, ℕ, zero, suc, ◌+◌, ◌/◌, ◌%◌, ltb}
+use Rattle.splice.specs.Splice.{splice}
 
 -- the digits of x, of which there are at most n: a number below ten is one digit, and any other is a tenth of it and its last digit
 unfoldable pub digits : ℕ → ℕ → List ℕ
@@ -24,3 +25,8 @@ written (x ∷ xs) = decimal x ++ spaced xs
 unfoldable pub padded : ℕ → ℕ → List ℕ
 padded zero x = []
 padded (suc n) x = padded n (x / 10) ++ ((x % 10 + 48) ∷ [])
+
+-- the last n digits of x stand in l from `at` on, which makes l to m, and r is the place after them
+pub record PutPadded (l : List ℕ) (at n x : ℕ) (m : List ℕ) (r : ℕ) : Type 0 where
+  pub place_is : r ≡ at + n
+  pub list_is : m ≡ splice l at (padded n x)

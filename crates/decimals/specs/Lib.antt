@@ -1,2 +1,3 @@
--- Numbers in decimal. Assumes nothing.
+-- Numbers in decimal, and laws about them. Assumes nothing.
 pub mod Decimal
+pub mod Laws

@@ -11,7 +11,8 @@ use std::io::{Read, Write};
 const MOST: usize = 65536;
 
 // The input's next bytes at the front of `buffer`, and how many: as many as it has room for, or all
-// to the end of the input, or to where reading fails.
+// to the end of the input, or to where reading fails. std's read_exact does not say how many it read
+// before the end, and its read_to_end allocates.
 fn read_full<R: Read>(source: &mut R, buffer: &mut [u8]) -> usize
     ensures { result ≤ length buffer.new }
 {

@@ -3,7 +3,7 @@
 // not grow with the input, and a budget of reads makes every loop over the lines end.
 #![tactic(auto)]
 
-ghost use Rattle.std.specs.Prelude.{◌≡◌, ◌+◌, ◌<◌, ◌≤◌, length, take, Some, IfSome, OnSome};
+ghost use Rattle.std.specs.Prelude.{◌≡◌, ◌+◌, ◌<◌, ◌≤◌, take, Some, IfSome, OnSome};
 ghost use Rattle.std.specs.Iterator.{at_most};
 ghost use Rattle.input.specs.State.{lines_left};
 ghost use Rattle.line_in_place.specs.Standing.{standing};
@@ -32,14 +32,6 @@ pub struct Lines<S> {
     reads: u64,
     ghost within: { at ≤ end },
     ghost inside: { end ≤ 65536 },
-}
-
-// A chunk filled anew, and how many bytes it has: none at the end of the input, or where reading
-// fails.
-pub fn refill<S: io::Read>(source: &mut S, chunk: &mut [u8]) -> usize
-    ensures { result ≤ length chunk.new }
-{
-    source.read(chunk).unwrap_or(0)
 }
 
 impl<S: io::Read> Lines<S> {
@@ -79,8 +71,9 @@ impl<S: io::Read> Lines<S> {
             }
             gather(&mut line, part);
             self.at = 0;
-            self.end = refill(&mut self.source, &mut self.chunk);
+            self.end = self.source.read(&mut self.chunk).unwrap_or(0);
             self.reads = left;
+            // The input has ended, or reading failed.
             if self.end == 0 {
                 self.reads = 0;
                 break;

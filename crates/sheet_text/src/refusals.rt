@@ -1,4 +1,5 @@
-// A refusal's number, its word and its rule (docs/RATING.md), so that a person sees what to change.
+// A refusal by its number, its word and its rule (docs/RATING.md), so that a person sees what to
+// change.
 use arrayvec::ArrayString;
 use rating::refusal::Refusal;
 use std::fmt::{self, Write};

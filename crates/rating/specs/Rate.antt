@@ -16,7 +16,7 @@ pub record Answer : Type 0 where
   pub rating : ℕ
   pub sheet : List ℕ
 
-unfoldable pub refused : ℕ → Answer
+abbrev pub refused : ℕ → Answer
 refused n = record { number = n; rating = 0; sheet = replicate 13 0 }
 
 -- what `rate` returns, as an answer

@@ -1,4 +1,4 @@
--- `load` is the definition: refusals 10 and 11 are its tests, and the sheet is in order.
+-- `loaded` is the definition: refusals 10 and 11 are its tests, and the sheet is in order.
 use Rattle.std.proofs.Common.{[], ap, arith, le-ltb, lt-ltb, ltb, subst, sym, ◌*◌, ◌∙◌, ◌∷◌, ◌≡◌}
 use Rattle.formulas.specs.Refusals.{dielectric_refused, current_refused}
 use Rattle.rating.specs.Values.{rise_of}

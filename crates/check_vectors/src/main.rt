@@ -6,83 +6,86 @@
 // say.
 #![tactic(auto)]
 
-ghost use Rattle.std.specs.Prelude.{◌≤◌, length};
-ghost use Rattle.rate_text.specs.Answers.{answer_room};
-
+mod count;
 mod expected;
-mod tally;
 mod two_records;
 
-use std::io;
-use tally::{Tally, nothing};
-use text::line::{CASE, read_line};
+use arrayvec::ArrayString;
+use count::Count;
+use expected::{is_same, is_within};
+use input::Lines;
+use rate_text::{ROOM, print_line};
+use rating::rate::rate;
+use std::io::{self, Read};
+use text::line::{Said, read_line};
 
-// The rating of the case that a line holds, or 0.
-fn rating_of(line: &[u8]) -> u64 {
-    let said = read_line(line);
-    if said.kind == CASE {
-        let fields = said.fields;
-        return rating::rate::rate(fields).rating as u64;
-    }
-    0
+// A case that waits for what it must get: what `rate` prints for it, and its rating.
+#[derive(Drop)]
+struct Waiting {
+    printed: ArrayString<ROOM>,
+    rating: u32,
 }
 
-// A line is a case, whose text is then put into `out`, or what the case before it must get.
-fn turn(t: Tally, out: &mut [u8], number: u64, line: &[u8], len: usize) -> Tally
-    requires { (answer_room ≤ length out.old) × (t.printed ≤ answer_room) × (len ≤ length line.now) }
-    ensures { result.printed ≤ answer_room }
-{
-    let part = &line[..len];
-    let printed = t.printed;
-    if printed == 0 {
-        let text = rate_text::print_line(out, 0, number, part);
-        return t.waiting(text, rating_of(part));
-    }
-    if expected::is_range(part) {
-        return t.compared(true, expected::is_within(part, t.rating));
-    }
-    t.compared(false, expected::is_same(&out[..printed], part))
+// The comparisons with a line, and with a range of the rating.
+#[derive(Clone, Copy, Default)]
+struct Tally {
+    cases: Count,
+    ranges: Count,
 }
 
-// Each line in turn, and how many comparisons were made.
-fn compare<S: io::Read>(source: &mut S, chunk: &mut [u8], line: &mut [u8], out: &mut [u8]) -> Tally
-    requires { answer_room ≤ length out.old }
-{
-    let mut from = input::start();
-    let mut t = nothing();
-    let mut number: u64 = 0;
-    while number < u64::MAX {
-        let next = input::next_line(source, chunk, line, from);
-        if !next.found {
-            return t;
+// The rating of the case that a line says: 0 where it says none, or one that is refused.
+fn rating_of(line: &[u8]) -> u32 {
+    match read_line(line) {
+        Said::Case(x) => rate(x).map_or(0, |rated| rated.rating),
+        Said::PassedOver | Said::Unreadable => 0,
+    }
+}
+
+// The case that a line has, unless it is passed over.
+fn case_on(number: u64, line: &[u8]) -> Option<Waiting> {
+    let mut printed = ArrayString::<ROOM>::new();
+    print_line(&mut printed, number, line);
+    if printed.is_empty() {
+        return None;
+    }
+    Some(Waiting {
+        printed,
+        rating: rating_of(line),
+    })
+}
+
+impl Tally {
+    // A case is compared with what a line says that it must get.
+    fn compare(&mut self, case: &Waiting, line: &[u8]) {
+        match line.strip_prefix(b"r") {
+            Some(range) => self.ranges.add(is_within(range, case.rating)),
+            None => self.cases.add(is_same(case.printed.as_str(), line)),
         }
-        number += 1;
-        t = turn(t, out, number, line, next.len);
-        from = next.next;
     }
-    t
 }
 
-fn say(to: &impl Print, count: u64, words: &str) -> io::Result<()> {
-    print!(to; "{count}{words}")
+// Each line is a case, or what the case before it must get.
+fn compare<S: Read + Drop>(lines: Lines<S>) -> Tally {
+    let mut tally = Tally::default();
+    let mut case = None;
+    for (number, line) in (1..=u64::MAX).zip(lines) {
+        case = match case {
+            None => case_on(number, &line),
+            Some(case) => {
+                tally.compare(&case, &line);
+                None
+            }
+        };
+    }
+    tally
 }
 
 fn main(rt: HostRuntime) -> io::Result<()> {
-    let mut source = rt.stdin();
-    let mut chunk = [0u8; 65536];
-    let mut line = [0u8; input::LINE];
-    let mut out = [0u8; 65536];
-    let t = compare(&mut source, &mut chunk, &mut line, &mut out);
-    let cases = t.cases;
-    say(&rt, cases.made, " cases compared, ")?;
-    say(&rt, cases.failed, " differ\n")?;
-    let ranges = t.ranges;
-    say(
-        &rt,
-        ranges.made,
-        " published ratings held to their tolerance, ",
-    )?;
-    say(&rt, ranges.failed, " outside\n")?;
-    print!(rt; "a book of 2 records has the distance ")?;
-    say(&rt, two_records::distance_of_two(), "\n")
+    let Tally { cases, ranges } = compare(Lines::new(rt.stdin()));
+    let Count { made, failed } = cases;
+    print!(rt; "{made} cases compared, {failed} differ\n")?;
+    let Count { made, failed } = ranges;
+    print!(rt; "{made} published ratings held to their tolerance, {failed} outside\n")?;
+    let distance = two_records::distance_of_two().unwrap_or(0);
+    print!(rt; "a book of 2 records has the distance {distance}\n")
 }

@@ -1,7 +1,5 @@
 // An edge of the format (docs/BOOK.md): a book of two records has the distance 224, as its trailer
 // says it.
-ghost use Rattle.std.specs.Prelude.{◌≤◌};
-
 use book::append::append;
 use book::start::start;
 use fields::WIDTH;
@@ -13,30 +11,12 @@ const LENGTH: usize = 240;
 const DISTANCE: usize = LENGTH - 8;
 
 // The distance back to the first record.
-pub(crate) fn distance_of_two() -> u64 {
-    let mut buffer = [0u8; LENGTH];
-    let b: &mut [u8] = &mut buffer;
-    let empty = start(b, 0);
-    let one = append(b, empty.used, [0; WIDTH]);
-    let two = append(b, one.used, [0; WIDTH]);
-    if two.used != b.len() {
-        return 0;
+pub(crate) fn distance_of_two() -> Option<u32> {
+    let mut book = [0u8; LENGTH];
+    let mut used = start(&mut book, 0).ok()?;
+    for _ in 0..2 {
+        used = append(&mut book, used, [0; WIDTH]).ok()?;
     }
-    word(b, DISTANCE)
-}
-
-fn wide(x: u8) -> u64
-    ensures { result ≤ 255 }
-{
-    x as u64
-}
-
-fn word(b: &[u8], at: usize) -> u64 {
-    if b.len() < 4 {
-        return 0;
-    }
-    if at > b.len() - 4 {
-        return 0;
-    }
-    ((wide(b[at]) * 256 + wide(b[at + 1])) * 256 + wide(b[at + 2])) * 256 + wide(b[at + 3])
+    let word = book[DISTANCE..].first_chunk()?;
+    (used == LENGTH).then_some(u32::from_be_bytes(*word))
 }

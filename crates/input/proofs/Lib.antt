@@ -1,2 +1,1 @@
 -- Laws that the proofs of single functions share. Assumes nothing.
-pub mod Places

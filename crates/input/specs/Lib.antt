@@ -1,3 +1,2 @@
--- What reading keeps of its positions and buffers. Assumes nothing.
+-- How many lines a stream may still have. Assumes nothing.
 pub mod State
-pub mod Laws

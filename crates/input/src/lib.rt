@@ -1,172 +1,125 @@
-// A stream, as standard input, line by line, in two buffers that the caller lends: a chunk as it was
-// read, and the line that is gathered from chunks. Memory does not grow with the input, and a budget
-// of reads makes every loop end.
+// A stream, as standard input, line by line: the lines themselves, or what each says. One chunk of
+// the stream is held, and a line that a chunk has not whole is gathered from several. Memory does
+// not grow with the input, and a budget of reads makes every loop over the lines end.
 #![tactic(auto)]
 
-ghost use Rattle.std.specs.Prelude.{true, ◌≡◌, ◌≤◌, length, take};
-ghost use Rattle.input.specs.Laws.Steps.{PartReady, PartGathered};
-ghost use Rattle.input.specs.State.{Ready, Given, said_here};
+ghost use Rattle.std.specs.Prelude.{◌≡◌, ◌+◌, ◌<◌, ◌≤◌, take, Some, IfSome, OnSome};
+ghost use Rattle.std.specs.Iterator.{at_most};
+ghost use Rattle.input.specs.State.{lines_left};
 ghost use Rattle.line_in_place.specs.Standing.{standing};
 
+use arrayvec::ArrayVec;
 use line_in_place::read_at;
+use memchr::memchr;
 use std::io;
-use text::gather::{ROOM, keep, line_feed};
-use text::line::{Read, read_line};
+use text::gather::{ROOM, gather};
+use text::line::{Said, read_line};
 
-// Room for a line, in the buffer that a program lends for it.
-pub const LINE: usize = ROOM;
+// A line without its line feed; of one that is longer as much as fits.
+pub type Line = ArrayVec<u8, ROOM>;
 
-// Where reading stands: the chunk's bytes from `at` to `end` are still to come, and so many reads
-// are left.
-#[derive(Clone, Copy)]
-pub struct Input {
-    pub at: usize,
-    pub end: usize,
-    pub reads: u64,
+// The most bytes that are read at once.
+const CHUNK: usize = 65536;
+
+// The lines of a stream: the chunk's bytes from `at` to `end` are still to come, and so many reads
+// are left. A line feed ends a line, or the end of the input after at least one byte.
+#[derive(Drop)]
+pub struct Lines<S> {
+    source: S,
+    chunk: [u8; CHUNK],
+    at: usize,
+    end: usize,
+    reads: u64,
+    ghost within: { at ≤ end },
+    ghost inside: { end ≤ 65536 },
 }
 
-// The line's length, if there was one: a line feed ends it, or the end of the input after at least
-// one byte.
-#[derive(Clone, Copy)]
-pub struct NextLine {
-    pub found: bool,
-    pub len: usize,
-    pub next: Input,
-}
-
-// What the line says, if there was one.
-#[derive(Clone, Copy)]
-pub struct NextSaid {
-    pub found: bool,
-    pub said: Read,
-    pub next: Input,
-}
-
-pub fn start() -> Input
-    ensures { Ready result 0 }
-{
-    Input {
-        at: 0,
-        end: 0,
-        reads: u64::MAX,
-    }
-}
-
-// The chunk's bytes up to a line feed or the end, added to the line.
-#[derive(Clone, Copy)]
-struct Gathered {
-    stop: usize,
-    len: usize,
-}
-
-fn gather(chunk: &[u8], line: &mut [u8], len: usize, at: usize, end: usize) -> Gathered
-    requires { PartReady chunk.now line.old len at end }
-    ensures { PartGathered result end line.new }
-{
-    let part = &chunk[..end];
-    let stop = line_feed(part, at);
-    let more = keep(line, len, part, at, stop);
-    Gathered { stop, len: more }
-}
-
-// The chunk filled anew, and how many bytes it has: none at the end of the input, or where reading
-// fails.
-fn refill<S: io::Read>(source: &mut S, chunk: &mut [u8]) -> usize
-    ensures { result ≤ length chunk.new }
-{
-    match source.read(chunk) {
-        Ok(count) => count,
-        Err(_) => 0,
-    }
-}
-
-// What is left of the line at the end of the input, if anything is.
-fn last(len: usize) -> NextLine
-    ensures { (result.len ≡ len) × (result.next.at ≡ 0) × (result.next.end ≡ 0) }
-{
-    NextLine {
-        found: 0 < len,
-        len,
-        next: Input {
+impl<S: io::Read> Lines<S> {
+    // Nothing is read yet.
+    pub fn new(source: S) -> Self
+        ensures start { (result.at ≡ 0) × (result.end ≡ 0) }
+        ensures reads { result.reads ≡ 18446744073709551615 }
+    {
+        Lines {
+            source,
+            chunk: [0u8; CHUNK],
             at: 0,
             end: 0,
-            reads: 0,
-        },
+            reads: u64::MAX,
+        }
+    }
+
+    // What each of these lines says.
+    pub fn said(self) -> SaidLines<S>
+        ensures { result.0 ≡ self }
+    {
+        SaidLines(self)
+    }
+
+    // The next line.
+    pub fn next_line(&mut self) -> Option<Line>
+        ensures { OnSome result (lines_left self.new.at self.new.end self.new.reads
+            < lines_left self.old.at self.old.end self.old.reads) }
+    {
+        let mut line = Line::new();
+        for left in (0..self.reads).rev() {
+            let part = &self.chunk[self.at..self.end];
+            if let Some(len) = memchr(b'\n', part) {
+                gather(&mut line, &part[..len]);
+                self.at += len + 1;
+                return Some(line);
+            }
+            gather(&mut line, part);
+            self.at = 0;
+            self.end = self.source.read(&mut self.chunk).unwrap_or(0);
+            self.reads = left;
+            // The input has ended, or reading failed.
+            if self.end == 0 {
+                self.reads = 0;
+                break;
+            }
+        }
+        if line.is_empty() { None } else { Some(line) }
+    }
+
+    // What the next line says. A line that the chunk has to its line feed is read there, and any
+    // other is gathered first.
+    pub fn next_said(&mut self) -> Option<Said>
+        ensures progress { OnSome result (lines_left self.new.at self.new.end self.new.reads
+            < lines_left self.old.at self.old.end self.old.reads) }
+        ensures value { IfSome (standing (take self.old.end self.old.chunk) self.old.at) (λ here.
+            (result ≡ Some here.said) × (self.new.at ≡ here.to + 1) × (self.new.end ≡ self.old.end)
+            × (self.new.reads ≡ self.old.reads)) }
+    {
+        if let Some(line) = read_at(&self.chunk[..self.end], self.at) {
+            self.at = line.to + 1;
+            return Some(line.said);
+        }
+        let line = self.next_line()?;
+        Some(read_line(&line))
     }
 }
 
-// The next line, without its line feed, at the front of `line`; of a longer one as much as fits.
-pub fn next_line<S: io::Read>(
-    source: &mut S,
-    chunk: &mut [u8],
-    line: &mut [u8],
-    from: Input,
-) -> NextLine
-    requires { Ready from (length chunk.old) }
-    ensures { Given result (length chunk.new) (length line.new) }
-{
-    let mut at = from.at;
-    let mut end = from.end;
-    let mut reads = from.reads;
-    let mut len: usize = 0;
-    while 0 < reads {
-        let g = gather(chunk, line, len, at, end);
-        len = g.len;
-        if g.stop < end {
-            return NextLine {
-                found: true,
-                len,
-                next: Input {
-                    at: g.stop + 1,
-                    end,
-                    reads,
-                },
-            };
-        }
-        end = refill(source, chunk);
-        if end == 0 {
-            return last(len);
-        }
-        at = 0;
-        reads -= 1;
+impl<S: io::Read + Drop> Iterator for Lines<S> {
+    type Item = Line;
+
+    ghost remaining = { λ s. at_most (lines_left s.at s.end s.reads) };
+
+    fn next(&mut self) -> Option<Line> {
+        self.next_line()
     }
-    last(len)
 }
 
-// What the next line says. A line that the chunk has to its line feed is read there, and any other
-// is gathered in `line` first.
-pub fn next_said<S: io::Read>(
-    source: &mut S,
-    chunk: &mut [u8],
-    line: &mut [u8],
-    from: Input,
-) -> NextSaid
-    requires { Ready from (length chunk.old) }
-    ensures ready { Ready result.next (length chunk.new) }
-    ensures value { let here = standing (take from.end chunk.old) from.at in
-        here.whole ≡ true → result ≡ said_here here from }
-{
-    let at = from.at;
-    let end = from.end;
-    let here = read_at(&chunk[..end], at);
-    if here.whole {
-        let said = here.said;
-        return NextSaid {
-            found: true,
-            said,
-            next: Input {
-                at: here.to + 1,
-                end,
-                reads: from.reads,
-            },
-        };
-    }
-    let got = next_line(source, chunk, line, from);
-    let len = got.len;
-    let next = got.next;
-    NextSaid {
-        found: got.found,
-        said: read_line(&line[..len]),
-        next,
+// What each line of a stream says.
+#[derive(Drop)]
+pub struct SaidLines<S>(Lines<S>);
+
+impl<S: io::Read + Drop> Iterator for SaidLines<S> {
+    type Item = Said;
+
+    ghost remaining = { λ s. at_most (lines_left s.0.at s.0.end s.0.reads) };
+
+    fn next(&mut self) -> Option<Said> {
+        self.0.next_said()
     }
 }

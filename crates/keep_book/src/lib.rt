@@ -5,15 +5,16 @@
 ghost use Rattle.std.specs.Prelude.{◌≡◌, ◌-◌, length, take};
 ghost use Rattle.keep_book.specs.Keeping.{next_word, keep_for, kept_of};
 ghost use Rattle.splice.specs.Put.{Put};
-ghost use Rattle.text.specs.Answer.{said_of};
 
 use book::append::append;
+use book_bytes::refusal::Refusal;
 use text::gather::keep;
-use text::line::{CASE, PASSED_OVER, Read};
+use text::line::Said;
 
 // Adds a word to a note of `len` bytes at the front of the buffer, after a blank unless it is the
 // first, and answers the new length. Of a note longer than the buffer as much is kept as fits, for
-// which `start` has then no room.
+// which `start` has then no room. The length stands beside the buffer, since the note is the front
+// of the book's own bytes, and the book comes after it there.
 pub fn add_word(buffer: &mut [u8], len: usize, first: bool, word: &[u8]) -> usize
     ensures { Put buffer.old len (take (length buffer.old - len) (next_word first word.now))
         buffer.new result }
@@ -25,32 +26,21 @@ pub fn add_word(buffer: &mut [u8], len: usize, first: bool, word: &[u8]) -> usiz
     keep(buffer, from, word, 0, word.len())
 }
 
-// What became of a line: whether it could be read, 0 or the number by which `append` refused its
-// case, and the used length.
-#[derive(Clone, Copy)]
-pub struct Kept {
-    pub readable: bool,
-    pub number: u32,
-    pub used: usize,
+// Why a line is not kept: it cannot be read, or `append` refused its case.
+#[derive(Clone, Copy, Debug, PartialEq, Eq)]
+pub enum NotKept {
+    Unreadable,
+    Refused(Refusal),
 }
 
-// Appends the case that a line says to a book. A line that is passed over or cannot be read changes
-// nothing.
-pub fn keep_said(buffer: &mut [u8], used: usize, said: Read) -> Kept
-    ensures { kept_of result buffer.new ≡ keep_for (said_of said) buffer.old used }
+// Appends the case that a line says to a book, and answers the used length. A line that is passed
+// over or cannot be read changes nothing.
+pub fn keep_said(buffer: &mut [u8], used: usize, said: Said) -> Result<usize, NotKept>
+    ensures { kept_of result used buffer.new ≡ keep_for said buffer.old used }
 {
-    if said.kind != CASE {
-        return Kept {
-            readable: said.kind == PASSED_OVER,
-            number: 0,
-            used,
-        };
-    }
-    let fields = said.fields;
-    let written = append(buffer, used, fields);
-    Kept {
-        readable: true,
-        number: written.number,
-        used: written.used,
+    match said {
+        Said::PassedOver => Ok(used),
+        Said::Case(case) => append(buffer, used, case).map_err(NotKept::Refused),
+        Said::Unreadable => Err(NotKept::Unreadable),
     }
 }

@@ -1,75 +1,49 @@
 // Reads cases from standard input as the program rate does, and prints for each a work sheet for a
-// person. The text of a sheet is `sheet_text::work_sheet`; here are the buffers, the loop over the
-// lines and the writing.
+// person. The text of a sheet is `sheet_text::work_sheet`; here are the buffer, the loop over the
+// lines and the writing. Text that cannot be written is lost, since there is nowhere to say so.
 #![tactic(auto)]
 
-ghost use Rattle.std.specs.Prelude.{◌≤◌, length};
+ghost use Rattle.std.specs.Prelude.{◌+◌, ◌≤◌};
+ghost use Rattle.arrayvec.specs.ArrayString.{array_string_len};
 ghost use Rattle.rate_text.specs.Answers.{answer_room};
 
+use arrayvec::ArrayString;
 use fields::Case;
-use output::send;
-use rate_text::put_about;
-use std::io;
-use text::bytes::put_bytes;
-use text::line::{CASE, Read};
+use input::Lines;
+use rate_text::{print_said, put_about};
+use rating::rate::rate;
+use sheet_text::{ROOM, work_sheet};
+use std::io::Write;
+use text::line::Said;
 
-// A heading with the case's line number.
-fn show_heading<W: io::Write>(to: &mut W, number: u64) {
-    let mut out = [0u8; 64];
-    let from = put_bytes(&mut out, 0, b"CASE on ");
-    let end = put_about(&mut out, from, number, b"\n");
-    send(to, &out, end);
-}
+// Room for a sheet and its heading.
+const BUFFER: usize = 2 * ROOM;
 
-// A heading, and the case's sheet.
-fn show_case<W: io::Write>(to: &mut W, out: &mut [u8], number: u64, x: Case) {
-    show_heading(to, number);
-    let used = sheet_text::work_sheet(out, x, rating::rate::rate(x));
-    send(to, out, used);
+// A heading with the case's line number, and the case's sheet.
+fn put_case<const N: usize>(out: &mut ArrayString<N>, number: u64, x: Case)
+    requires { array_string_len out.old + 64 ≤ N }
+{
+    out.push_str("CASE on ");
+    put_about(out, number, "\n");
+    work_sheet(out, x, rate(x));
 }
 
 // A line that is no case has the text that the program rate prints for it.
-fn show<W: io::Write>(to: &mut W, out: &mut [u8], number: u64, said: Read)
-    requires { answer_room ≤ length out.old }
+fn put_said<const N: usize>(out: &mut ArrayString<N>, number: u64, said: Said)
+    requires { array_string_len out.old + answer_room ≤ N }
 {
-    if said.kind == CASE {
-        let fields = said.fields;
-        show_case(to, out, number, fields);
-        return;
-    }
-    let used = rate_text::print_said(out, 0, number, said);
-    send(to, out, used);
-}
-
-// Each line's sheet.
-fn show_lines<S: io::Read, W: io::Write>(
-    source: &mut S,
-    to: &mut W,
-    chunk: &mut [u8],
-    line: &mut [u8],
-    out: &mut [u8],
-)
-    requires { answer_room ≤ length out.old }
-{
-    let mut from = input::start();
-    let mut number: u64 = 0;
-    while number < u64::MAX {
-        let next = input::next_said(source, chunk, line, from);
-        if !next.found {
-            return;
-        }
-        number += 1;
-        let said = next.said;
-        show(to, out, number, said);
-        from = next.next;
+    match said {
+        Said::Case(x) => put_case(out, number, x),
+        Said::PassedOver | Said::Unreadable => print_said(out, number, said),
     }
 }
 
 fn main(rt: HostRuntime) {
-    let mut source = rt.stdin();
     let mut to = rt.stdout();
-    let mut chunk = [0u8; 65536];
-    let mut line = [0u8; input::LINE];
-    let mut out = [0u8; 65536];
-    show_lines(&mut source, &mut to, &mut chunk, &mut line, &mut out);
+    let mut out = ArrayString::<BUFFER>::new();
+    for (number, said) in (1..=u64::MAX).zip(Lines::new(rt.stdin()).said()) {
+        out.clear();
+        put_said(&mut out, number, said);
+        let _ = to.write_all(out.as_str().as_bytes());
+    }
 }

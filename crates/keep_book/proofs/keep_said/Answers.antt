@@ -1,34 +1,35 @@
--- `keep_book::keep_said` meets its contract: at each `return` the kind tells what the line says. Assumes nothing.
-use Rattle.std.proofs.Common.{Bool, List, ap, cond, eqb, false, ne_eqb, refl, sym, true, ℕ, ◌∙◌, ◌≡◌}
-use Rattle.keep_book.specs.Keeping.{unchanged, keep_for}
-use Rattle.book_laws.specs.Book.{append_of}
+-- `keep_book::keep_said` meets its contract: each kind of line as `keep_for` says. Assumes nothing.
+use Rattle.std.proofs.Common.{Err, List, Ok, Result, ap, refl, rules, true, ℕ, ◌∙◌, ◌≡◌}
+use Rattle.std.specs.Result.{IsErrAnd, MatchResult}
+use Rattle.std.proofs.lemmas.Result.{err_from_is_err_and}
+use Rattle.book_bytes.specs.declared.refusal.Refusal.{Refusal}
 use Rattle.book_laws.specs.Start.{Written}
-use Rattle.text.specs.declared.line.Read.{Read}
-use Rattle.text.specs.Answer.{said_of}
-use Rattle.text.specs.Line.{passed_over, unreadable}
+use Rattle.book.specs.Answers.{written_of}
+use Rattle.keep_book.specs.declared.NotKept.{NotKept}
+use Rattle.keep_book.specs.declared.NotKept.TheVariants.{Refused}
+use Rattle.keep_book.specs.Keeping.{keep_for, kept_of, unchanged}
 use Rattle.keep_book.proofs.keep_said.Goals as goal
 
-either_way : (t : Bool) (b : List ℕ) (used : ℕ) → unchanged t b used ≡ keep_for (cond t passed_over unreadable) b used
+-- s is r, with Q between their errors
+passed_on :
+    (Q : Refusal → NotKept → Type 0) → ((e : Refusal) (n : NotKept) → Q e n → n ≡ Refused e) →
+    (r : Result ℕ Refusal) (s : Result ℕ NotKept) (before : ℕ) (b : List ℕ) {w : Written} →
+    MatchResult r (λ used. s ≡ Ok used) (λ e. IsErrAnd s (Q e)) → written_of r b ≡ w →
+    kept_of s before b ≡ record { readable = true; written = w }
+passed_on Q same (Ok used) s before b given is = rw given (ap (λ (v : Written). record { readable = true; written = v }) is)
+passed_on Q same (Err e) s before b given is =
+    let err = err_from_is_err_and s given in
+    rw (err.1 ∙ ap Err (same e err.0 err.2)) (ap (λ (v : Written). record { readable = true; written = v }) is)
+
+pub returns-in-PassedOver : goal.returns-in-PassedOver
+unfolding keep_for unchanged
+returns-in-PassedOver c = rw c.in-PassedOver.is refl
+
+pub returns-in-Case : goal.returns-in-Case
 unfolding keep_for
-either_way true b used = refl
-either_way false b used = refl
+returns-in-Case c =
+    rw c.in-Case.is (passed_on _ (λ e n q. search rules) c.append.result _ _ _ c.map_err.ensures.cases c.append.ensures)
 
-module _ (b : List ℕ) (used : ℕ) (r : Read) where
-  no_case : (r.kind ≡ 1 → ⊥) → unchanged (eqb r.kind 0) b used ≡ keep_for (said_of r) b used
-  unfolding said_of
-  no_case h = either_way (eqb r.kind 0) b used ∙ sym (simp (ne_eqb _ 1 h))
-
-  a_case : (w : Written) → w ≡ append_of b used r.fields → r.kind ≡ 1
-      → record { readable = true; written = w } ≡ keep_for (said_of r) b used
-  unfolding said_of keep_for
-  a_case w f h = ap (λ v. record { readable = true; written = v }) f ∙ sym (simp h)
-
-pub returns-then-said-ne-CASE : goal.returns-then-said-ne-CASE
-unfolding unchanged
-returns-then-said-ne-CASE c =
-    let a = c.args in
-    no_case a.buffer.now a.used a.said c.if-said-ne-CASE.true
-
-pub returns : goal.returns
-returns c =
-    a_case _ _ _ _ c.append-written.ensures c.if-said-ne-CASE.false
+pub returns-in-Unreadable : goal.returns-in-Unreadable
+unfolding keep_for
+returns-in-Unreadable c = rw c.in-Unreadable.is refl

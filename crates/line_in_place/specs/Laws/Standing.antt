@@ -1,4 +1,5 @@
--- A line that stands in a chunk: where it ends, how a reader shows that it has read it, and that it ends within the chunk. Assumes nothing.
+-- A line that stands in a chunk: where it ends, how a reader shows that it has read it, and that it ends within the chunk, and
+-- not before its start. Assumes nothing.
 use Rattle.std.specs.Prelude.{Bool, cond, List, Some, None, ◌≡◌, refl, ℕ, ◌≤◌, ◌<◌, ltb, get_or, drop}
 use Rattle.std.proofs.Math.Bool.{true, false}
 use Rattle.std.proofs.Math.Path.{sym, ap}
@@ -51,3 +52,10 @@ whole_within chunk from line e =
     let to = line_end chunk from in
     let e = chosen (ltb to (length chunk)) line (line_of to (read_line (piece from to chunk))) e in
     subst (λ (l : Line). l.to < length chunk) (sym e.1) (ltb-true to (length chunk) e.0)
+
+pub whole_after : (chunk : List ℕ) (from : ℕ) (line : Line) → Some line ≡ standing chunk from → from ≤ line.to
+unfolding standing line_of line_end
+whole_after chunk from line e =
+    let to = line_end chunk from in
+    let e = chosen (ltb to (length chunk)) line (line_of to (read_line (piece from to chunk))) e in
+    subst (λ (l : Line). from ≤ l.to) (sym e.1) (omega arith)

@@ -1,0 +1,14 @@
+// How many comparisons of one kind were made, and how many of them failed.
+#[derive(Clone, Copy, Default)]
+pub(crate) struct Count {
+    pub(crate) made: u64,
+    pub(crate) failed: u64,
+}
+
+impl Count {
+    // One more comparison.
+    pub(crate) fn add(&mut self, is_right: bool) {
+        self.made = self.made.saturating_add(1);
+        self.failed = self.failed.saturating_add(u64::from(!is_right));
+    }
+}

@@ -1,2 +1,0 @@
--- What the contracts inside this crate ask and keep. Assumes nothing.
-pub mod Steps

@@ -79,7 +79,7 @@ pub fn agrees(stored: &Stored) -> bool
 {
     let record = Record::of_bytes(stored);
     let rated = Record::of_case(record.case);
-    (record.answer == rated.answer) & (record.rating == rated.rating)
+    record.answer == rated.answer && record.rating == rated.rating
 }
 
 // The records of a book, which stand one after another from `first` on.

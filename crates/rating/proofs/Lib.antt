@@ -1,5 +1,4 @@
 pub mod Own
 pub mod Refused
-pub mod Temperatures
-pub mod Tests
+pub mod SheathReactance
 pub mod Laws

@@ -1,17 +1,11 @@
 -- The answer to a case that a step refused: by an arrangement that is none, or by a test of its fields. Assumes nothing.
-use Rattle.std.proofs.Common.{◌≡◌, ◌∙◌, List, ℕ, Result, Ok, Err, ap, cond, eqb, false, refl}
-use Rattle.std.specs.Result.{IsErrAnd}
+use Rattle.std.proofs.Common.{◌≡◌, ◌∙◌, List, ℕ, ap, cond, eqb, false, refl}
 use Rattle.rating.specs.declared.refusal.Refusal.{Refusal}
 use Rattle.rating.specs.declared.refusal.Refusal as Code
 use Rattle.rating.specs.Refusal.{number_of}
 use Rattle.rating.specs.Arrangements.{no_arrangement, own}
 use Rattle.rating.specs.FieldRefusals.{arrangement_refused, field_refusal}
 use Rattle.rating.specs.Rate.{refused, judged, rate_of, rate_of_is}
-
--- what `?` hands on of an error is the error
-pub handed_on : {T E : Type 0} {r : Result T E} {e : E} → IsErrAnd r (λ e'. e' ≡ e) → r ≡ Err e
-handed_on {r = Ok _} none = elim none [ ]
-handed_on {r = Err _} same = ap Err same
 
 numbered : (refusal : Refusal) → eqb (number_of refusal) 0 ≡ false
 numbered Code.TheVariants.Arrangement = refl

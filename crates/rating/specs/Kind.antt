@@ -1,7 +1,7 @@
 -- The kinds of the code: the arrangement that each is, and the one that a number picks. Assumes nothing.
 use Rattle.std.specs.Prelude.{◌≡◌, ℕ, Result, MatchResult}
-use Rattle.rating.specs.declared.arrangement.Formation.{Formation}
-use Rattle.rating.specs.declared.arrangement.Formation.TheVariants.{Trefoil, Flat}
+use Rattle.rating.specs.declared.one_point.Formation.{Formation}
+use Rattle.rating.specs.declared.one_point.Formation.TheVariants.{Trefoil, Flat}
 use Rattle.rating.specs.declared.arrangement.Kind.{Kind}
 use Rattle.rating.specs.declared.arrangement.Kind.TheVariants.{BothEnds, OnePoint, SlType, CommonSheath}
 use Rattle.rating.specs.declared.refusal.Refusal.{Refusal}

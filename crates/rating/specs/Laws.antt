@@ -4,5 +4,4 @@ pub mod Sound
 pub mod Rise
 pub mod Fit
 pub mod Steps
-pub mod Takes
 pub mod Logarithms

@@ -1,31 +1,42 @@
-// What the stages take of a case that refusals 1 to 7 let pass: its resistances, its rise, B and its z.
-ghost use Rattle.std.specs.Prelude.{◌≡◌, ◌-ℤ◌, nat_abs};
+// A case that refusals 1 to 7 let pass, and what the stages take of it: its resistances, its rise, B, its z and T1 to T4.
+ghost use Rattle.std.specs.Prelude.{◌≡◌, ◌≤◌, ◌-ℤ◌, nat_abs};
 ghost use Rattle.std.specs.Int.{w32};
 ghost use Rattle.std.proofs.Common.{to_z};
+ghost use Rattle.formulas.specs.Laws.Bounds.{most_k};
 ghost use Rattle.formulas.specs.Resistance;
 ghost use Rattle.formulas.specs.Skin.{skin_ratio};
 ghost use Rattle.formulas.specs.Tables;
 ghost use Rattle.fields.specs.Fields as Field;
+ghost use Rattle.rating.specs.Arrangements.{own};
+ghost use Rattle.rating.specs.FieldRefusals.{field_refusal};
+ghost use Rattle.rating.specs.Kind.{arrangement_as};
 ghost use Rattle.rating.specs.Laws.Rise.{RiseRange};
 ghost use Rattle.rating.specs.Laws.Sound.{Sound};
-ghost use Rattle.rating.specs.Laws.Steps.{MetalLimits};
-ghost use Rattle.rating.specs.Laws.Takes.{IsWord, SkinRatioTakes};
+ghost use Rattle.rating.specs.Laws.Steps.{IsThermal, MetalLimits};
 ghost use Rattle.rating.specs.Values.{R', Rs, B, rise_of};
 
+use super::arrangement::Kind;
 use fields::{
     AMBIENT_TEMPERATURE, CONDUCTOR, CONDUCTOR_RESISTANCE, CONDUCTOR_TEMPERATURE, Case, FREQUENCY,
-    SHEATH_METAL, SHEATH_RESISTANCE, SHEATH_TEMPERATURE,
+    SHEATH_METAL, SHEATH_RESISTANCE, SHEATH_TEMPERATURE, T1, T2, T3, T4,
 };
 use stages::reactance::reactance;
 use stages::resistance::{resistance, signed};
 use stages::skin::skin_ratio;
+use stages::thermal::Thermal;
 use tables::{coefficient, conductor_metal};
+use wide::rounding::Up;
 
-// A word as a number for the stages, with its range.
-pub(crate) fn number(n: u32) -> u64
-    ensures { IsWord n result }
-{
-    n as u64
+// `eddies`: whether refusal 9 is tried.
+#[derive(Clone, Copy)]
+pub struct SoundCase {
+    pub x: Case,
+    pub kind: Kind,
+    pub eddies: bool,
+    ghost has: { own x ≡ arrangement_as kind },
+    ghost none_given: { field_refusal x ≡ 0 },
+    ghost sound: { Sound x },
+    ghost eddies_is: { eddies ≡ (own x).eddies },
 }
 
 // Stage 1: the resistance of a metal, given at 20 °C, at a temperature.
@@ -36,50 +47,66 @@ pub(crate) fn resistance_of(field: u32, metal: u32, theta: u32) -> u64
     resistance(field, coefficient(metal), theta)
 }
 
-pub(crate) fn conductor_resistance(x: Case) -> u64
-    requires { Sound x }
-    ensures { result ≡ R' x }
+// The first temperature less the second.
+pub(crate) fn difference(theta: u32, below: u32) -> i64
+    ensures { result ≡ to_z w32 theta -ℤ to_z w32 below }
 {
-    resistance_of(
-        x[CONDUCTOR_RESISTANCE],
-        conductor_metal(x[CONDUCTOR]),
-        x[CONDUCTOR_TEMPERATURE],
-    )
+    signed(theta) - signed(below)
 }
 
-pub(crate) fn sheath_resistance(x: Case) -> u64
-    requires { Sound x }
-    ensures { result ≡ Rs x }
-{
-    resistance_of(x[SHEATH_RESISTANCE], x[SHEATH_METAL], x[SHEATH_TEMPERATURE])
-}
+impl SoundCase {
+    pub(crate) fn conductor_resistance(&self) -> u64
+        ensures { result ≡ R' self.now.x }
+    {
+        resistance_of(
+            self.x[CONDUCTOR_RESISTANCE],
+            conductor_metal(self.x[CONDUCTOR]),
+            self.x[CONDUCTOR_TEMPERATURE],
+        )
+    }
 
-pub(crate) fn reactance_of(x: Case) -> u64
-    requires { Sound x }
-    ensures { result ≡ B x }
-{
-    reactance(number(x[FREQUENCY]))
-}
+    #[tactic(auto, unfolding(crate::specs::Values::Rs))]
+    pub(crate) fn sheath_resistance(&self) -> u64
+        ensures { result ≡ Rs self.now.x }
+    {
+        resistance_of(
+            self.x[SHEATH_RESISTANCE],
+            self.x[SHEATH_METAL],
+            self.x[SHEATH_TEMPERATURE],
+        )
+    }
 
-// z with k, which is ks or kp.
-pub(crate) fn skin_ratio_of(x: Case, k: u32, rc: u64) -> u64
-    requires { SkinRatioTakes x k rc }
-    ensures { result ≡ skin_ratio (Field.frequency x) k (R' x) }
-{
-    skin_ratio(number(x[FREQUENCY]), number(k), rc)
-}
+    #[tactic(auto, unfolding(crate::specs::Values::B))]
+    pub(crate) fn reactance(&self) -> u64
+        ensures { result ≡ B self.now.x }
+    {
+        reactance::<Up>(u64::from(self.x[FREQUENCY]))
+    }
 
-// The first temperature less the second, which is the lower one.
-fn difference(conductor: u32, ambient: u32) -> u64
-    requires { RiseRange (to_z w32 conductor -ℤ to_z w32 ambient) }
-    ensures { result ≡ nat_abs (to_z w32 conductor -ℤ to_z w32 ambient) }
-{
-    (signed(conductor) - signed(ambient)) as u64
-}
+    // z with k, which is ks or kp.
+    pub(crate) fn skin_ratio(&self, k: u32, rc: u64) -> u64
+        requires k_most { k ≤ most_k }
+        requires rc_is { rc ≡ R' self.now.x }
+        ensures { result ≡ skin_ratio (Field.frequency self.now.x) k (R' self.now.x) }
+    {
+        skin_ratio(u64::from(self.x[FREQUENCY]), u64::from(k), rc)
+    }
 
-pub(crate) fn rise(x: Case) -> u64
-    requires { Sound x }
-    ensures { result ≡ rise_of x }
-{
-    difference(x[CONDUCTOR_TEMPERATURE], x[AMBIENT_TEMPERATURE])
+    #[tactic(auto, unfolding(crate::specs::Values::rise_of))]
+    pub(crate) fn rise(&self) -> u64
+        ensures { result ≡ rise_of self.now.x }
+    {
+        difference(self.x[CONDUCTOR_TEMPERATURE], self.x[AMBIENT_TEMPERATURE]) as u64
+    }
+
+    pub(crate) fn thermal(&self) -> Thermal
+        ensures { IsThermal self.now.x result }
+    {
+        Thermal {
+            t1: u64::from(self.x[T1]),
+            t2: u64::from(self.x[T2]),
+            t3: u64::from(self.x[T3]),
+            t4: u64::from(self.x[T4]),
+        }
+    }
 }

@@ -1,40 +1,41 @@
-// Stage 9 on a case.
-ghost use Rattle.std.specs.Prelude.{◌≡◌};
+// Stage 9 on a case: the dielectric loss, and its rise with n cores.
+ghost use Rattle.std.specs.Prelude.{◌≡◌, ◌≤◌};
 ghost use Rattle.formulas.specs.Dielectric.{dielectric_rise};
+ghost use Rattle.formulas.specs.Laws.Bounds.{most_cores};
 ghost use Rattle.fields.specs.Fields as Field;
-ghost use Rattle.rating.specs.Laws.Takes.{DielectricLossTakes, DielectricRiseTakes};
-ghost use Rattle.rating.specs.Values.{Wd};
+ghost use Rattle.rating.specs.Values.{B, Wd};
 
-use super::case::number;
-use fields::{
-    Case, INSULATION_DIAMETER, LOSS_FACTOR, PERMITTIVITY, SCREEN_DIAMETER, T1, T2, T3, T4, VOLTAGE,
-};
+use super::case::SoundCase;
+use super::judge::FitCase;
+use fields::{INSULATION_DIAMETER, LOSS_FACTOR, PERMITTIVITY, SCREEN_DIAMETER, VOLTAGE};
 use stages::dielectric::{dielectric_loss, dielectric_rise};
-use stages::logarithm::log_low;
+use stages::logarithm::log;
+use wide::rounding::Down;
 
-pub(crate) fn dielectric_loss_of(x: Case, b: u64) -> u64
-    requires { DielectricLossTakes x b }
-    ensures { result ≡ Wd x }
-{
-    dielectric_loss(
-        number(x[PERMITTIVITY]),
-        number(x[VOLTAGE]),
-        number(x[LOSS_FACTOR]),
-        b,
-        log_low(number(x[INSULATION_DIAMETER]), number(x[SCREEN_DIAMETER])),
-    )
+impl SoundCase {
+    pub(crate) fn dielectric_loss(&self, b: u64) -> u64
+        requires { b ≡ B self.now.x }
+        ensures { result ≡ Wd self.now.x }
+    {
+        dielectric_loss(
+            u64::from(self.x[PERMITTIVITY]),
+            u64::from(self.x[VOLTAGE]),
+            u64::from(self.x[LOSS_FACTOR]),
+            b,
+            log::<Down>(
+                u64::from(self.x[INSULATION_DIAMETER]),
+                u64::from(self.x[SCREEN_DIAMETER]),
+            ),
+        )
+    }
 }
 
-pub(crate) fn dielectric_rise_of(x: Case, n: u64, wd: u64) -> u64
-    requires { DielectricRiseTakes x n wd }
-    ensures { result ≡ dielectric_rise n (Wd x) (Field.t1 x) (Field.t2 x) (Field.t3 x) (Field.t4 x) }
-{
-    dielectric_rise(
-        n,
-        wd,
-        number(x[T1]),
-        number(x[T2]),
-        number(x[T3]),
-        number(x[T4]),
-    )
+impl FitCase {
+    pub(crate) fn dielectric_rise(&self, n: u64) -> u64
+        requires { n ≤ most_cores }
+        ensures { let x = self.now.case.x in
+            result ≡ dielectric_rise n (Wd x) (Field.t1 x) (Field.t2 x) (Field.t3 x) (Field.t4 x) }
+    {
+        dielectric_rise(n, self.wd, self.case.thermal())
+    }
 }

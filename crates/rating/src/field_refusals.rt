@@ -1,4 +1,4 @@
-// Refusals 2 to 7, which look at the fields alone: a test for each, and the number of the first that is given.
+// Refusals 2 to 7, which look at the fields alone: a test for each, and the first that is given.
 ghost use Rattle.std.specs.Prelude.{◌≡◌, pos, ◌-ℤ◌};
 ghost use Rattle.std.specs.Int.Signed.{le_z};
 ghost use Rattle.std.specs.Int.{w32};
@@ -9,7 +9,7 @@ ghost use Rattle.rating.specs.Laws.Steps.{Asks, ChecksFields};
 ghost use Rattle.rating.specs.Within as Within;
 
 use super::arrangement::Rules;
-use super::case::number;
+use super::case::difference;
 use super::refusal::Refusal;
 use fields::{
     AMBIENT_TEMPERATURE, CONDUCTOR, CONDUCTOR_DIAMETER, CONDUCTOR_RESISTANCE,
@@ -19,19 +19,19 @@ use fields::{
 };
 use stages::resistance::signed;
 
-// A field from low to high, the ends included.
+// A field from low to high, the ends included. The library's test has a function of its own, so that at each call its answer is the
+// definition's.
 pub(crate) fn within(low: u32, high: u32, n: u32) -> bool
     ensures { result ≡ Within.within low high n }
 {
-    (low <= n) & (n <= high)
+    (low..=high).contains(&n)
 }
 
-// A temperature from low to high.
+// A temperature from low to high, likewise.
 pub(crate) fn within_signed(low: i64, high: i64, theta: u32) -> bool
     ensures { result ≡ Within.within_z low high (to_z w32 theta) }
 {
-    let t = signed(theta);
-    (low <= t) & (t <= high)
+    (low..=high).contains(&signed(theta))
 }
 
 // The first temperature is at most the second.
@@ -45,15 +45,17 @@ pub(crate) fn not_hotter(theta: u32, limit: u32) -> bool
 fn warmer(conductor: u32, ambient: u32) -> bool
     ensures { result ≡ le_z (pos 500) (to_z w32 conductor -ℤ to_z w32 ambient) }
 {
-    500 <= signed(conductor) - signed(ambient)
+    500 <= difference(conductor, ambient)
 }
 
+#[tactic(auto, unfolding(crate::specs::FieldRefusals::conductor_refused))]
 fn conductor_refused(x: Case) -> bool
     ensures { result ≡ FieldRefusals.conductor_refused x }
 {
     !within(1, 8, x[CONDUCTOR])
 }
 
+#[tactic(auto, unfolding(crate::specs::FieldRefusals::conductor_limits))]
 fn conductor_limits(x: Case) -> bool
     ensures { result ≡ FieldRefusals.conductor_limits x }
 {
@@ -67,6 +69,7 @@ fn conductor_limits(x: Case) -> bool
         & within(100, 30000, x[INSULATION_DIAMETER])
 }
 
+#[tactic(auto, unfolding(crate::specs::FieldRefusals::sheath_limits))]
 fn sheath_limits(x: Case) -> bool
     ensures { result ≡ FieldRefusals.sheath_limits x }
 {
@@ -79,6 +82,7 @@ fn sheath_limits(x: Case) -> bool
         & within_signed(-4000, 25000, x[SHEATH_TEMPERATURE])
 }
 
+#[tactic(auto, unfolding(crate::specs::FieldRefusals::thermal_limits))]
 fn thermal_limits(x: Case) -> bool
     ensures { result ≡ FieldRefusals.thermal_limits x }
 {
@@ -89,6 +93,7 @@ fn thermal_limits(x: Case) -> bool
 }
 
 // With what the arrangement answered.
+#[tactic(auto, unfolding(crate::specs::FieldRefusals::limit_refused))]
 fn limit_refused(x: Case, its: bool) -> bool
     requires { its ≡ (own x).limits x }
     ensures { result ≡ FieldRefusals.limit_refused x }
@@ -96,16 +101,18 @@ fn limit_refused(x: Case, its: bool) -> bool
     !(conductor_limits(x) & sheath_limits(x) & thermal_limits(x) & its)
 }
 
+#[tactic(auto, unfolding(crate::specs::FieldRefusals::geometry_refused))]
 fn geometry_refused(x: Case, its: bool) -> bool
     requires { its ≡ (own x).geometry x }
     ensures { result ≡ FieldRefusals.geometry_refused x }
 {
     !((x[CONDUCTOR_DIAMETER] <= x[SCREEN_DIAMETER])
-        & (105 * number(x[SCREEN_DIAMETER]) <= 100 * number(x[INSULATION_DIAMETER]))
+        & (105 * u64::from(x[SCREEN_DIAMETER]) <= 100 * u64::from(x[INSULATION_DIAMETER]))
         & (x[INSULATION_DIAMETER] <= x[SHEATH_DIAMETER])
         & its)
 }
 
+#[tactic(auto, unfolding(crate::specs::FieldRefusals::heat_refused))]
 fn heat_refused(x: Case, its: bool) -> bool
     requires { its ≡ (own x).heat x }
     ensures { result ≡ FieldRefusals.heat_refused x }
@@ -115,7 +122,7 @@ fn heat_refused(x: Case, its: bool) -> bool
         & its)
 }
 
-#[tactic(auto, unfolding(crate::specs::FieldRefusals::field_refusal, crate::specs::FieldRefusals::arrangement_refused, crate::specs::FieldRefusals::stray_refused, crate::specs::FieldRefusals::metal_refused))]
+// The first that is given, in rising order.
 pub(crate) fn check_fields(x: Case, rules: Rules) -> Result<(), Refusal>
     requires { Asks (own x) x rules }
     ensures { ChecksFields x result }

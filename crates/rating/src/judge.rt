@@ -1,22 +1,24 @@
-// Refusals 2 to 9 on a case whose arrangement is known, and the values that every arrangement shares, where none of them is given.
+// Refusals 8 and 9 on a case that 1 to 7 let pass; and a case that 1 to 9 let pass, with the values that every arrangement shares.
+ghost use Rattle.std.specs.Prelude.{◌≡◌, IfOk, IfErr};
 ghost use Rattle.rating.specs.Arrangements.{own};
-ghost use Rattle.rating.specs.Laws.Steps.{Asks, FieldsPass, Judges};
+ghost use Rattle.rating.specs.Laws.Fit.{Fit};
+ghost use Rattle.rating.specs.Laws.Steps.{Refuses};
+ghost use Rattle.rating.specs.Rate.{loaded, rate_of};
+ghost use Rattle.rating.specs.Values as Values;
+ghost use Rattle.rating.specs.Values.{R', Rs, B, R, Wd};
 
-use super::arrangement::Rules;
-use super::case::{conductor_resistance, reactance_of, sheath_resistance, skin_ratio_of};
-use super::conductor::conductor;
-use super::dielectric::dielectric_loss_of;
-use super::field_refusals::check_fields;
+use super::case::SoundCase;
 use super::refusal::Refusal;
-use fields::{CONDUCTOR, Case};
+use fields::CONDUCTOR;
 use tables::{kp, ks};
 
 // The largest z that refusal 8 lets pass.
 const SKIN_LIMIT: u64 = 7_840_000_000_000;
 
-// What every arrangement shares: R', B, Rs, ys, yp, R and Wd.
+// The values are R', B, Rs, ys, yp, R and Wd. `answer`: refusals 10 and 11 are all that is left to try.
 #[derive(Clone, Copy)]
-pub struct Shared {
+pub struct FitCase {
+    pub case: SoundCase,
     pub rc: u64,
     pub b: u64,
     pub rs: u64,
@@ -24,41 +26,44 @@ pub struct Shared {
     pub yp: u64,
     pub r: u64,
     pub wd: u64,
+    ghost fit: { Fit (own case.x) case.x },
+    ghost answer: { rate_of case.x ≡ loaded case.x },
+    ghost rc_is: { rc ≡ R' case.x },
+    ghost b_is: { b ≡ B case.x },
+    ghost rs_is: { rs ≡ Rs case.x },
+    ghost ys_is: { ys ≡ Values.ys case.x },
+    ghost yp_is: { yp ≡ Values.yp case.x },
+    ghost r_is: { r ≡ R case.x },
+    ghost wd_is: { wd ≡ Wd case.x },
 }
 
-// Refusals 8 and 9, where none before them was given. `eddies`: whether 9 is tried.
-fn judge_stages(x: Case, eddies: bool) -> Result<Shared, Refusal>
-    requires { FieldsPass x eddies }
-    ensures { Judges x result }
-{
-    let rc = conductor_resistance(x);
-    let zs = skin_ratio_of(x, ks(x[CONDUCTOR]), rc);
-    let zp = skin_ratio_of(x, kp(x[CONDUCTOR]), rc);
-    if (SKIN_LIMIT < zs) | (SKIN_LIMIT < zp) {
-        return Err(Refusal::Skin);
+impl SoundCase {
+    pub(crate) fn judged(self) -> Result<FitCase, Refusal>
+        ensures same { IfOk result (λ fit. fit.case.x ≡ self.x) }
+        ensures refused { IfErr result (Refuses self.x) }
+    {
+        let rc = self.conductor_resistance();
+        let zs = self.skin_ratio(ks(self.x[CONDUCTOR]), rc);
+        let zp = self.skin_ratio(kp(self.x[CONDUCTOR]), rc);
+        if (SKIN_LIMIT < zs) | (SKIN_LIMIT < zp) {
+            return Err(Refusal::Skin);
+        }
+        let b = self.reactance();
+        let rs = self.sheath_resistance();
+        if self.eddies & (rs < 5 * b) {
+            return Err(Refusal::Eddy);
+        }
+        let wd = self.dielectric_loss(b);
+        let h = self.conduction(rc, zs, zp);
+        Ok(FitCase {
+            case: self,
+            rc,
+            b,
+            rs,
+            ys: h.ys,
+            yp: h.yp,
+            r: h.r,
+            wd,
+        })
     }
-    let b = reactance_of(x);
-    let rs = sheath_resistance(x);
-    if eddies & (rs < 5 * b) {
-        return Err(Refusal::Eddy);
-    }
-    let wd = dielectric_loss_of(x, b);
-    let h = conductor(x, rc, zs, zp);
-    Ok(Shared {
-        rc,
-        b,
-        rs,
-        ys: h.ys,
-        yp: h.yp,
-        r: h.r,
-        wd,
-    })
-}
-
-pub(crate) fn judge(x: Case, rules: Rules) -> Result<Shared, Refusal>
-    requires { Asks (own x) x rules }
-    ensures { Judges x result }
-{
-    check_fields(x, rules)?;
-    judge_stages(x, rules.eddies)
 }

@@ -1,5 +1,5 @@
 // The rating of docs/RATING.md: from the 26 words of a case to the answer, the rating and the sheet. Each arrangement has a module of
-// its own, and `rate` picks it.
+// its own, and the kind of a case picks it.
 #![tactic(auto)]
 
 mod arrangement;
@@ -10,6 +10,7 @@ mod conductor;
 mod dielectric;
 mod field_refusals;
 mod judge;
+mod known;
 mod load;
 mod one_point;
 pub mod rate;

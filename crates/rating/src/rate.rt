@@ -1,14 +1,11 @@
-// The rating of a case of any 26 words. Its number picks the arrangement, whose rules and losses the steps take; a number that is no
-// arrangement's is refused by 1.
+// The rating of a case of any 26 words, in four steps: `of` tries refusal 1, `checked` 2 to 7, `judged` 8 and 9, and `loaded` 10 and 11.
+// Each refuses the case, or hands it on as a type that keeps what is then known of it.
 ghost use Rattle.std.specs.Prelude.{◌≡◌};
-ghost use Rattle.rating.specs.Laws.Steps.{Has};
 ghost use Rattle.rating.specs.Rate.{answer_of, rate_of};
 
-use super::arrangement::{Kind, losses_of, rules_of};
-use super::judge::judge;
-use super::load::load;
+use super::known::KnownCase;
 use super::refusal::Refusal;
-use fields::{ARRANGEMENT, Case};
+use fields::Case;
 
 // How many numbers the sheet has.
 pub const SHEET: usize = 13;
@@ -20,18 +17,8 @@ pub struct Rated {
     pub sheet: [u64; SHEET],
 }
 
-// A case that has the kind's arrangement.
-fn rate_in(x: Case, kind: Kind) -> Result<Rated, Refusal>
-    requires { Has x kind }
-    ensures { answer_of result ≡ rate_of x }
-{
-    let p = judge(x, rules_of(x, kind))?;
-    load(x, p, losses_of(x, kind, p))
-}
-
 pub fn rate(x: Case) -> Result<Rated, Refusal>
     ensures { answer_of result ≡ rate_of x }
 {
-    let kind = Kind::try_from(x[ARRANGEMENT])?;
-    rate_in(x, kind)
+    KnownCase::of(x)?.checked()?.judged()?.loaded()
 }

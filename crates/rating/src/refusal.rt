@@ -1,5 +1,5 @@
-// The refusals of a case, in the order in which they are tried. The numbers are those of docs/RATING.md, 'The refusals', which the C functions
-// and the books write.
+// The refusals of a case, in the order in which they are tried. The numbers are those of docs/RATING.md, 'The refusals', which the C
+// functions and the books write.
 ghost use Rattle.std.specs.Prelude.{◌≡◌};
 ghost use Rattle.rating.specs.Refusal.{number_of};
 

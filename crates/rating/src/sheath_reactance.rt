@@ -1,37 +1,28 @@
-// Stage 6 on a case whose sheaths do not overlap: X, and X- from below.
+// Stage 6 on a case whose sheaths do not overlap: an end of the sheath's reactance from the same end of B. From above it is X, and from
+// below X-.
 ghost use Rattle.std.specs.Prelude.{◌≡◌};
-ghost use Rattle.rating.specs.Laws.Takes.{SheathsApart, SheathReactanceTakes};
-ghost use Rattle.rating.specs.Values.{X, XLow};
+ghost use Rattle.fields.specs.Fields as Field;
+ghost use Rattle.rating.specs.Laws.Steps.{SheathReactanceTakes};
 
-use super::case::number;
-use fields::{ARRANGEMENT, Case, FREQUENCY, SHEATH_DIAMETER, SPACING};
-use stages::reactance::reactance_low;
-use stages::spacing::{sheath_reactance, sheath_reactance_low, spacing_log_high, spacing_log_low};
+use super::judge::FitCase;
+use fields::{ARRANGEMENT, SHEATH_DIAMETER, SPACING};
+use stages::ends::End;
+use stages::spacing::{sheath_reactance, spacing_log};
 
-pub(crate) fn sheath_reactance_of(x: Case, b: u64) -> u64
-    requires { SheathReactanceTakes x b }
-    ensures { result ≡ X x }
-{
-    sheath_reactance(
-        b,
-        spacing_log_high(
-            x[ARRANGEMENT],
-            number(x[SPACING]),
-            number(x[SHEATH_DIAMETER]),
-        ),
-    )
-}
-
-pub(crate) fn sheath_reactance_low_of(x: Case) -> u64
-    requires { SheathsApart x }
-    ensures { result ≡ XLow x }
-{
-    sheath_reactance_low(
-        reactance_low(number(x[FREQUENCY])),
-        spacing_log_low(
-            x[ARRANGEMENT],
-            number(x[SPACING]),
-            number(x[SHEATH_DIAMETER]),
-        ),
-    )
+impl FitCase {
+    pub(crate) fn sheath_reactance<R: End>(&self, b: u64) -> u64
+        requires { SheathReactanceTakes R.spacing_log self.now.case.x b }
+        ensures { let x = self.now.case.x in
+            result ≡ R.sheath_reactance b (R.spacing_log (Field.arrangement x) (Field.spacing x) (Field.sheath_diameter x)) }
+    {
+        let x = &self.case.x;
+        sheath_reactance::<R>(
+            b,
+            spacing_log::<R>(
+                x[ARRANGEMENT],
+                u64::from(x[SPACING]),
+                u64::from(x[SHEATH_DIAMETER]),
+            ),
+        )
+    }
 }

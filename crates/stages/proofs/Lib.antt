@@ -1,4 +1,4 @@
-pub mod Ends
+pub mod Logs
 pub mod Quotients
 pub mod Series
 pub mod Signed

@@ -1,10 +1,6 @@
--- The thirteen terms of stage 5 as a loop adds them, stated once over the rounding: what holds before each turn, and that a turn
--- keeps it; and the terms that are left once a power is 0 or 1, by which a loop may end sooner. Assumes nothing.
-use Rattle.std.proofs.Common.{◌≡◌, refl, sym, ap, subst, ◌∙◌, ℕ, zero, suc, ◌+◌, ◌-◌, ◌*◌, ◌/◌, ◌^◌, ◌≤◌, ◌<◌, zero-add, le_trans}
-use Rattle.std.proofs.Common.{lt_of_le_of_lt, div-mul-le_self, arith, lit<, lit≤}
-use Rattle.std.proofs.Math.Nat.{lt-div-mul-add}
-use Rattle.exact.specs.Rounding.{up, down}
-use Rattle.exact.proofs.Laws.Rounding.{up_only, down_only}
+-- The thirteen terms of stage 5 as the loop adds them: what holds before each turn, and that a turn keeps it. Assumes nothing.
+use Rattle.std.proofs.Common.{◌≡◌, ap, subst, ◌∙◌, ℕ, zero, suc, ◌+◌, ◌-◌, ◌*◌, ◌^◌, ◌≤◌, ◌<◌, zero-add, le_trans}
+use Rattle.std.proofs.Common.{lt_of_le_of_lt, arith, lit<, lit≤}
 use Rattle.exact.specs.Trillion.{trillion}
 use Rattle.formulas.specs.Constants.{tera}
 use Rattle.formulas.specs.Logarithm.{series, thirteen_terms}
@@ -40,10 +36,6 @@ module _ {round : ℕ → ℕ → ℕ} (bounded : Bounded round) where
         passed = omega arith;
         alive = λ j>0. absurd (omega (arith, j>0));
       }
-
-  -- the next power fits a limb
-  pub next_fits : {first q p sum j : ℕ} → Summed round first q p sum j → round (p * q) trillion < 2 ^ 64
-  next_fits {q = q} {p} s = fits (product_most p q s.power s.ratio)
 
   -- a power above 0 is not made by a ratio of 0
   ratio_above : (p q : ℕ) → 0 < round (p * q) trillion → 0 < q
@@ -82,42 +74,3 @@ unfolding series
 done {round} {q = q} {p} {j = j} s h =
     let none : 13 - j ≡ 0 = omega arith in
     omega (arith, ap (λ n. series round q n j p) none)
-
--- the terms that are left where the power is 0, rounded down, or 1, rounded up
-
-none_left : (q n j : ℕ) → series down q n j 0 ≡ 0
-unfolding series tera
-none_left q zero j = refl
-none_left q (suc n) j =
-    let term = down_only (2 * 0) (2 * j + 1) 0 (omega arith) (omega arith) in
-    let next = down_only (0 * q) trillion 0 (omega arith) (omega arith) in
-    omega (arith, term, ap (λ p. series down q n (j + 1) p) next, none_left q n (j + 1))
-
-ones_left : (q n j : ℕ) → 0 < q → q ≤ trillion → 0 < j → series up q n j 1 ≡ n
-unfolding series tera
-ones_left q zero j q>0 q≤ j>0 = refl
-ones_left q (suc n) j q>0 q≤ j>0 =
-    let term = up_only (2 * 1) (2 * j + 1) 1 (omega arith) (omega arith) in
-    let next = up_only (1 * q) trillion 1 (omega arith) (omega arith) in
-    omega (arith, term, ap (λ p. series up q n (j + 1) p) next, ones_left q n (j + 1) q>0 q≤ (omega arith))
-
-pub ended_down : {first q p sum j : ℕ} → Summed down first q p sum j → p ≡ 0 → sum ≡ thirteen_terms down first
-ended_down {q = q} {j = j} s zero-power =
-    omega (arith, s.whole, ap (λ p. series down q (13 - j) j p) zero-power, none_left q (13 - j) j)
-
-pub ended_up : {first q p sum j : ℕ} → Summed up first q p sum j → p ≡ 1 → 0 < j → sum + (13 - j) ≡ thirteen_terms up first
-ended_up {q = q} {j = j} s one j>0 =
-    let q>0 = s.alive j>0 (omega arith) in
-    omega (arith, s.whole, ap (λ p. series up q (13 - j) j p) one, ones_left q (13 - j) j q>0 (omega (arith, s.ratio)) j>0)
-
--- the code's quotient is the term, rounded up or down
-
-pub term_up : (p j : ℕ) → (2 * p + 2 * j) / (2 * j + 1) ≡ up (2 * p) (2 * j + 1)
-term_up p j =
-    let n = 2 * p + 2 * j in
-    let d = 2 * j + 1 in
-    let above : n < n / d * d + d = lt-div-mul-add (omega arith) in
-    sym (up_only (2 * p) d (n / d) (omega arith) (omega (arith, div-mul-le_self n d)))
-
-pub term_down : (p j : ℕ) → 2 * p / (2 * j + 1) ≡ down (2 * p) (2 * j + 1)
-term_down p j = sym (down_only (2 * p) (2 * j + 1) _ (div-mul-le_self _ _) (lt-div-mul-add (omega arith)))

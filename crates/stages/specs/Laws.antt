@@ -1,2 +1,3 @@
 -- What the functions of this crate ask of their arguments. Assumes nothing.
+pub mod Ends
 pub mod Ranges

@@ -4,8 +4,8 @@
 
 pub mod armour;
 pub mod common_sheath;
-mod constants;
 pub mod dielectric;
+pub mod ends;
 pub mod logarithm;
 pub mod proximity;
 pub mod rating;
@@ -14,4 +14,5 @@ pub mod resistance;
 pub mod sheath;
 pub mod skin;
 pub mod spacing;
-pub mod tables;
+mod square;
+pub mod thermal;

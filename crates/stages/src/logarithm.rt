@@ -1,19 +1,19 @@
-// Stage 5: the two ends of a logarithm. Each loop is one of the paper's sums.
+// Stage 5: the two ends of a logarithm, which differ in the rounding and the constants of `End`. The loop is the paper's sum.
 ghost use Rattle.std.specs.Prelude.{◌≡◌, ◌≤◌};
-ghost use Rattle.exact.specs.Rounding.{up, down};
-ghost use Rattle.formulas.specs.Logarithm.{thirteen_terms, log_low, log_high};
+ghost use Rattle.formulas.specs.Logarithm.{thirteen_terms};
 ghost use Rattle.formulas.specs.Laws.Bounds.{most_power};
 ghost use Rattle.stages.specs.Reduced.{IsReduced};
 ghost use Rattle.stages.specs.Laws.Ranges.{OctaveRanges, LogRanges};
 
-use super::constants::{LN2_HIGH, LN2_LOW};
-use wide::ratio::{mul_div_down, mul_div_up};
-use wide::trillion::{T, mul_div_down_trillion, mul_div_up_trillion};
+use super::ends::End;
+use wide::ratio::mul_div;
+use wide::rounding::rounded;
+use wide::trillion::{T, mul_div_trillion};
 
 // a/b without its octaves: how often b can be doubled and stay at most a, and the ζ that is left, as num over den.
 #[derive(Clone, Copy)]
 pub struct Reduced {
-    pub octaves: u64,
+    pub octaves: u32,
     pub num: u64,
     pub den: u64,
 }
@@ -22,12 +22,8 @@ fn reduce(a: u64, b: u64) -> Reduced
     requires { OctaveRanges a b }
     ensures { IsReduced a b result.octaves result.num result.den }
 {
-    let mut octaves: u64 = 0;
-    let mut doubled = b;
-    while 2 * doubled <= a {
-        octaves += 1;
-        doubled = 2 * doubled;
-    }
+    let octaves = (a / b).ilog2();
+    let doubled = b << octaves;
     Reduced {
         octaves,
         num: a - doubled,
@@ -35,58 +31,29 @@ fn reduce(a: u64, b: u64) -> Reduced
     }
 }
 
-// A power of 1 stays 1, and each term after the first is then 1.
-fn thirteen_terms_up(first: u64) -> u64
+// The fixed power ends the sum sooner: each term that is left is as large as the power.
+fn thirteen_terms<R: End>(first: u64) -> u64
     requires { first ≤ most_power }
-    ensures { result ≡ thirteen_terms up first }
+    ensures { result ≡ thirteen_terms R.round first }
 {
-    let q = mul_div_up_trillion(first, first);
+    let q = mul_div_trillion::<R>(first, first);
     let mut p = first;
     let mut sum: u64 = 0;
-    let mut j: u64 = 0;
-    while j < 13 {
-        if (p == 1) & (0 < j) {
-            return sum + (13 - j);
+    for j in 0..13 {
+        if (p == R::FIXED_POWER) & (0 < j) {
+            return sum + R::FIXED_POWER * (13 - j);
         }
-        sum += (2 * p + 2 * j) / (2 * j + 1);
-        p = mul_div_up_trillion(p, q);
-        j += 1;
+        sum += rounded::<R>(2 * p, 2 * j + 1);
+        p = mul_div_trillion::<R>(p, q);
     }
     sum
 }
 
-// A power of 0 stays 0, and adds nothing.
-fn thirteen_terms_down(first: u64) -> u64
-    requires { first ≤ most_power }
-    ensures { result ≡ thirteen_terms down first }
-{
-    let q = mul_div_down_trillion(first, first);
-    let mut p = first;
-    let mut sum: u64 = 0;
-    let mut j: u64 = 0;
-    while j < 13 {
-        if p == 0 {
-            return sum;
-        }
-        sum += 2 * p / (2 * j + 1);
-        p = mul_div_down_trillion(p, q);
-        j += 1;
-    }
-    sum
-}
-
-pub fn log_high(a: u64, b: u64) -> u64
+pub fn log<R: End>(a: u64, b: u64) -> u64
     requires { LogRanges a b }
-    ensures { result ≡ log_high a b }
+    ensures { result ≡ R.log a b }
 {
     let z = reduce(a, b);
-    thirteen_terms_up(mul_div_up(z.num, T, z.den)) + 1 + LN2_HIGH * z.octaves
-}
-
-pub fn log_low(a: u64, b: u64) -> u64
-    requires { LogRanges a b }
-    ensures { result ≡ log_low a b }
-{
-    let z = reduce(a, b);
-    thirteen_terms_down(mul_div_down(z.num, T, z.den)) + LN2_LOW * z.octaves
+    let terms = thirteen_terms::<R>(mul_div::<R>(z.num, T, z.den));
+    terms + R::REMAINDER + R::LN2 * u64::from(z.octaves)
 }

@@ -3,27 +3,29 @@ ghost use Rattle.std.specs.Prelude.{◌≡◌};
 ghost use Rattle.formulas.specs.Rating.{unit_rise, rating};
 ghost use Rattle.stages.specs.Laws.Ranges.{PartRanges, IsPart, UnitRiseRanges, RatingRanges};
 
-use wide::ratio::{mul_div_down, mul_div_up};
+use super::thermal::Thermal;
+use wide::ratio::mul_div;
 use wide::root::root;
+use wide::rounding::{Down, Up};
 
 // A part of E: the rise across one thermal resistance.
 fn rise(r: u64, t: u64) -> u64
     requires { PartRanges r t }
     ensures { IsPart r t result }
 {
-    mul_div_up(r, t, 1000000)
+    mul_div::<Up>(r, t, 1000000)
 }
 
-pub fn unit_rise(n: u64, r: u64, s: u64, w: u64, t1: u64, t2: u64, t3: u64, t4: u64) -> u64
-    requires { UnitRiseRanges n r s w t1 t2 t3 t4 }
-    ensures { result ≡ unit_rise n r s w t1 t2 t3 t4 }
+pub fn unit_rise(n: u64, r: u64, s: u64, w: u64, t: Thermal) -> u64
+    requires { UnitRiseRanges n r s w t.t1 t.t2 t.t3 t.t4 }
+    ensures { result ≡ unit_rise n r s w t.t1 t.t2 t.t3 t.t4 }
 {
-    rise(r, t1) + rise(n * (r + s), t2) + rise(n * (r + s + w), t3 + t4)
+    rise(r, t.t1) + rise(n * (r + s), t.t2) + rise(n * (r + s + w), t.t3 + t.t4)
 }
 
 pub fn rating(n: u64, e: u64) -> u64
     requires { RatingRanges n e }
     ensures { result ≡ rating n e }
 {
-    root(mul_div_down(10000000000000, n, e))
+    root(mul_div::<Down>(10000000000000, n, e))
 }

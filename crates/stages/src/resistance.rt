@@ -9,11 +9,7 @@ ghost use Rattle.stages.specs.Laws.Ranges.{FactorRanges, IsFactor, ResistanceRan
 pub fn signed(word: u32) -> i64
     ensures { result ≡ to_z w32 word }
 {
-    if word < 2147483648 {
-        word as i64
-    } else {
-        word as i64 - 4294967296
-    }
+    i64::from(word.cast_signed())
 }
 
 // 10^7 + α(θ - 2000): above 0, however cold it is.

@@ -1,13 +1,14 @@
-// Stage 6: the logarithm of the spacing, and the sheath's reactance.
+// Stage 6: an end of the logarithm of the spacing, and of the sheath's reactance.
 ghost use Rattle.std.specs.Prelude.{◌≡◌, ◌+◌, ◌*◌};
-ghost use Rattle.formulas.specs.Spacing.{third_of, spacing_log_high, spacing_log_low, sheath_reactance, sheath_reactance_low};
+ghost use Rattle.formulas.specs.Spacing.{third_of};
 ghost use Rattle.stages.specs.Laws.Ranges.{LogRanges, ThirdRanges, SheathReactanceRanges};
 
-use super::constants::{LN2_THIRD_HIGH, LN2_THIRD_LOW};
-use super::logarithm::{log_high, log_low};
-use wide::trillion::{mul_div_down_trillion, mul_div_up_trillion};
+use super::ends::End;
+use super::logarithm::log;
+use wide::trillion::mul_div_trillion;
 
-// An end of the logarithm with that of a third of ln 2, which arrangement 2 alone adds.
+// An end of the logarithm with that of a third of ln 2, which arrangement 2 alone adds. The number is the case's word, as C hands
+// it over.
 fn with_third(arrangement: u32, log: u64, third: u64) -> u64
     requires { ThirdRanges log third }
     ensures { result ≡ log + third_of arrangement third }
@@ -18,30 +19,16 @@ fn with_third(arrangement: u32, log: u64, third: u64) -> u64
     log
 }
 
-pub fn spacing_log_high(arrangement: u32, s: u64, d: u64) -> u64
+pub fn spacing_log<R: End>(arrangement: u32, s: u64, d: u64) -> u64
     requires { LogRanges (2 * s) d }
-    ensures { result ≡ spacing_log_high arrangement s d }
+    ensures { result ≡ R.spacing_log arrangement s d }
 {
-    with_third(arrangement, log_high(2 * s, d), LN2_THIRD_HIGH)
+    with_third(arrangement, log::<R>(2 * s, d), R::LN2_THIRD)
 }
 
-pub fn spacing_log_low(arrangement: u32, s: u64, d: u64) -> u64
-    requires { LogRanges (2 * s) d }
-    ensures { result ≡ spacing_log_low arrangement s d }
-{
-    with_third(arrangement, log_low(2 * s, d), LN2_THIRD_LOW)
-}
-
-pub fn sheath_reactance(b: u64, l: u64) -> u64
+pub fn sheath_reactance<R: End>(b: u64, l: u64) -> u64
     requires { SheathReactanceRanges b l }
-    ensures { result ≡ sheath_reactance b l }
+    ensures { result ≡ R.sheath_reactance b l }
 {
-    mul_div_up_trillion(b, l)
-}
-
-pub fn sheath_reactance_low(b: u64, l: u64) -> u64
-    requires { SheathReactanceRanges b l }
-    ensures { result ≡ sheath_reactance_low b l }
-{
-    mul_div_down_trillion(b, l)
+    mul_div_trillion::<R>(b, l)
 }

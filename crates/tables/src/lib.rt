@@ -1,5 +1,5 @@
 // The constant tables of docs/RATING.md: ks and kp by conductor code, and the metals' coefficients. That a table is the definition's is
-// proved once, over the whole table; a code's row has it from there.
+// proved once, over the whole table; a code's row has it from there. Codes are words, as the case of the C interface has them.
 #![tactic(auto)]
 
 ghost use Rattle.std.specs.Prelude.{true, ◌≡◌};

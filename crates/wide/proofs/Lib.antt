@@ -1,3 +1,4 @@
+pub mod Carried
 pub mod LongDivision
 pub mod Newton
-pub mod TwoLimbs
+pub mod Shift

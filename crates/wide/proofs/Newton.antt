@@ -1,8 +1,12 @@
 -- Newton's steps for a square root, on any numbers: a step from any r above 0 comes to the root or above, and one from r
 -- above the root comes below r. Assumes nothing.
-use Rattle.std.proofs.Common.{subst, ℕ, ◌+◌, ◌*◌, ◌/◌, ◌≤◌, ◌<◌, mul-le-mul_right, lt_of_mul-lt-mul_right, div-mul-le_self, arith}
+use Rattle.std.proofs.Common.{subst, ℕ, ◌+◌, ◌*◌, ◌/◌, ◌≤◌, ◌<◌, mul-le-mul, mul-le-mul_right, lt_of_mul-lt-mul_right, div-mul-le_self, arith}
 use Rattle.std.proofs.Math.Nat.{le_dest, lt-div-mul-add}
 use Rattle.std.proofs.Math.Decide.{dec_le}
+
+-- the square of a u32 fits a limb
+pub halves : {x y : ℕ} → x < 4294967296 → y < 4294967296 → x * y ≤ 18446744065119617025
+halves p q = mul-le-mul {n₂ = 4294967295} {m₂ = 4294967295} (omega arith) (omega arith)
 
 squares_at : {a b : ℕ} → a ≤ b → 2 * (a * b) ≤ a * a + b * b
 squares_at {a} {b} h = subst (λ (x : ℕ). 2 * (a * x) ≤ a * a + x * x) (le_dest h).1 (apart (le_dest h).0)

@@ -7,4 +7,5 @@ pub mod limbs;
 pub mod quotient;
 pub mod ratio;
 pub mod root;
+pub mod rounding;
 pub mod trillion;

@@ -1,25 +1,24 @@
 // A two-limb number divided by one limb, where the quotient has two limbs.
 ghost use Rattle.std.specs.Prelude.{◌≡◌, ◌<◌};
-ghost use Rattle.exact.specs.Rounding.{up, down};
 ghost use Rattle.wide.specs.Limbs.{value};
 ghost use Rattle.wide.specs.Split.{Split};
 
-use super::division::divide;
+use super::division::{Divided, divide};
 use super::limbs::{Wide, sum};
+use super::rounding::Rounding;
 
-// A quotient of two limbs, and what is left over.
-#[derive(Clone, Copy)]
-struct WideDivided {
-    quotient: Wide,
-    rest: u64,
-}
-
-fn divided(w: Wide, c: u64) -> WideDivided
+fn divided(w: Wide, c: u64) -> Divided<Wide>
     requires { 0 < c }
     ensures { Split (value w) c (value result.quotient) result.rest }
 {
-    let low = divide(w.hi % c, w.lo, c);
-    WideDivided {
+    let low = divide(
+        Wide {
+            hi: w.hi % c,
+            lo: w.lo,
+        },
+        c,
+    );
+    Divided {
         quotient: Wide {
             hi: w.hi / c,
             lo: low.quotient,
@@ -28,20 +27,16 @@ fn divided(w: Wide, c: u64) -> WideDivided
     }
 }
 
-pub fn quotient_down(w: Wide, c: u64) -> Wide
+pub fn quotient<R: Rounding>(w: Wide, c: u64) -> Wide
     requires { 0 < c }
-    ensures { value result ≡ down (value w) c }
-{
-    divided(w, c).quotient
-}
-
-pub fn quotient_up(w: Wide, c: u64) -> Wide
-    requires { 0 < c }
-    ensures { value result ≡ up (value w) c }
+    ensures { value result ≡ R.round (value w) c }
 {
     let d = divided(w, c);
-    if d.rest == 0 {
-        return d.quotient;
-    }
-    sum(d.quotient, Wide { hi: 0, lo: 1 })
+    sum(
+        d.quotient,
+        Wide {
+            hi: 0,
+            lo: R::carry(d.rest),
+        },
+    )
 }

@@ -1,10 +1,9 @@
 // The square root of a u64, rounded down: a guess by a table, one step of Newton's method from it, which brings it to the
-// root or above, and more steps while it is above. The guess decides only how many steps there are: mostly one.
+// root or above, and more steps while it is above. The guess decides only how many steps there are: mostly one, where the
+// library's `isqrt` halves an interval 32 times.
 ghost use Rattle.std.specs.Prelude.{◌^◌, ◌<◌};
 ghost use Rattle.exact.specs.Root.{IsRoot};
 ghost use Rattle.wide.specs.Laws.Ranges.{GuessRange, RootOrAbove};
-
-use super::division::shift_of;
 
 // The curve of the roots from i/32 to (i + 1)/32, as 24, 20 and 20 bits: where it starts, how far it rises, and four times
 // how far it bulges above a straight line, in units of 2^-24. By cases, of which the compiler makes a table; an array would
@@ -53,7 +52,7 @@ fn guess(x: u64) -> u64
     requires { 0 < x }
     ensures { GuessRange result }
 {
-    let s = shift_of(x);
+    let s = x.leading_zeros();
     let even = s - s % 2;
     let m = x << even;
     let p = piece(m / 576460752303423488);
@@ -68,10 +67,7 @@ fn stepped(x: u64, g: u64) -> u64
 {
     let r = (g + x / g) / 2;
     // no root of a u64 is above this, and the square of more would not fit
-    if r > 4294967295 {
-        return 4294967295;
-    }
-    r
+    r.min(4294967295)
 }
 
 pub fn root(x: u64) -> u64

@@ -1,8 +1,11 @@
 -- What the functions of the stages ask of their arguments, so that every product and quotient fits: one record for all functions that ask
--- the same, in the order of the stages. And the two answers that are handed on with their range. Assumes nothing.
-use Rattle.std.specs.Prelude.{◌≡◌, ℕ, ◌*◌, ◌≤◌, ◌<◌, ℤ, pos, ◌≤ℤ◌}
+-- the same, in the order of the stages. They speak of numbers, and there is no type for each quantity with its range: a caller has the range
+-- from the limits of a case, and would make and open such a value at every call. And the two answers that are handed on with their range.
+-- Assumes nothing.
+use Rattle.std.specs.Prelude.{◌≡◌, ℕ, ◌*◌, ◌^◌, ◌≤◌, ◌<◌, ℤ, pos, ◌≤ℤ◌}
 use Rattle.exact.specs.Rounding.{up}
 use Rattle.exact.specs.Trillion.{trillion}
+use Rattle.wide.specs.Laws.Ranges.{QuotientFits}
 use Rattle.formulas.specs.Resistance.{temperature_factor}
 use Rattle.formulas.specs.CommonSheath.{first_formula_limit}
 use Rattle.formulas.specs.Laws.Bounds.{
@@ -112,6 +115,12 @@ pub record ThirdRanges (log third : ℕ) : Type 0 where
 pub record SheathReactanceRanges (b l : ℕ) : Type 0 where
   pub b_most : b ≤ most_reactance
   pub l_most : l ≤ most_spacing_log
+
+-- Stages 7 and 8: a ratio n/c rounded, and its square over T.
+
+pub record SquareFits (round : ℕ → ℕ → ℕ) (n c : ℕ) : Type 0 where
+  pub ratio : QuotientFits c (round n c)
+  pub square : round (round n c * round n c) trillion < 2 ^ 64
 
 -- Stage 7.
 

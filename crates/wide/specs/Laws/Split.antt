@@ -1,6 +1,6 @@
 -- What a division's answer says of the two roundings. Assumes nothing.
-use Rattle.std.specs.Prelude.{◌≡◌, ℕ, zero, suc, ◌+◌, ◌*◌, ◌/◌, ◌%◌, ◌≤◌, ◌<◌}
-use Rattle.std.proofs.Common.{sym, ap, ◌∙◌, suc-ne-zero, mul-le-mul_left, mul-le-mul_right, lt_of_mul-lt-mul_right, div-add-mod'}
+use Rattle.std.specs.Prelude.{◌≡◌, refl, ℕ, zero, suc, ◌+◌, ◌*◌, ◌/◌, ◌%◌, ◌≤◌, ◌<◌}
+use Rattle.std.proofs.Common.{sym, ap, ◌∙◌, zero-le, suc-ne-zero, mul-le-mul_left, mul-le-mul_right, lt_of_mul-lt-mul_right, div-add-mod'}
 use Rattle.std.proofs.Common.{mod-lt, arith, eq-eqb, ne_eqb}
 use Rattle.exact.specs.Rounding.{up, down}
 use Rattle.exact.proofs.Laws.Rounding.{up_only, down_only, down_close}
@@ -31,6 +31,23 @@ unfolding upward
 split_up {n} {c} {q} {r = zero} s = sym (up_only n c q (omega arith) (omega arith))
 split_up {n} {c} {q} {r = suc r} s =
     upward_some q (suc r) (suc-ne-zero r) ∙ sym (up_only n c (q + 1) (omega arith) (omega arith))
+
+-- What a rounding adds to the quotient, of which rounding down adds nothing.
+
+pub nothing_carried : (r : ℕ) → 0 ≤ r
+nothing_carried r = zero-le
+
+pub down_of_split : (n c q r : ℕ) → Split n c q r → q + 0 ≡ down n c
+down_of_split n c q r s = omega (arith, split_down s)
+
+pub up_of_split : (n c q r : ℕ) → Split n c q r → q + upward 0 r ≡ up n c
+up_of_split n c q zero s = omega (arith, split_up s, upward_none 0 zero refl, upward_none q zero refl)
+up_of_split n c q (suc r) s =
+    omega (arith, split_up s, upward_some 0 (suc r) (suc-ne-zero r), upward_some q (suc r) (suc-ne-zero r))
+
+pub at_most_rest : (r : ℕ) → upward 0 r ≤ r
+at_most_rest zero = omega (arith, upward_none 0 zero refl)
+at_most_rest (suc r) = omega (arith, upward_some 0 (suc r) (suc-ne-zero r))
 
 -- where something is left over, one more than the quotient is at most the number
 pub split_more : {n c q r : ℕ} → Split n c q r → (r ≡ 0 → ⊥) → q + 1 ≤ n

@@ -23,6 +23,7 @@ use Rattle.book_bytes.specs.Stored.{StoredFrom}
 use Rattle.book_bytes.proofs.Stored.{agrees_in}
 use Rattle.book.proofs.Described.{goes_on, named_none, records_fit, refused}
 use Rattle.book.proofs.accept.accept.Goals as goal
+use Rattle.book.proofs.accept.accept.Goals.{After-position}
 
 -- the test by which a walk over the records stops
 abbrev differs : List ℕ → Bool
@@ -74,18 +75,18 @@ returns-in_err-book c =
 pub records-records-requires : goal.records-records-requires
 records-records-requires c = records_fit _ _ c.in_ok-book.ensures
 
-pub returns-in-Some : goal.returns-in-Some
-returns-in-Some c =
-    let place : c.position.result ≡ position differs c.records-records.result.now =
+-- where the walk stops
+stop_is : (c : After-position) → c.position.result ≡ position differs c.records-records.result.now
+stop_is c =
     position_from_yields_List differs _ _ c.position.result c.position.ensures.ran (YieldsList-from_slice _ c.iter.ensures.rest)
     (λ x b q k. search (rules, tests))
-    in
-    named _ _ c.in_ok-book.ensures c.records-records.ensures c.in-Some.i (sym place ∙ c.in-Some.is)
+
+pub returns-in-Some : goal.returns-in-Some
+returns-in-Some c =
+    let stop = stop_is (goal.at.returns-in-Some c).After-position in
+    named _ _ c.in_ok-book.ensures c.records-records.ensures c.in-Some.i (sym stop ∙ c.in-Some.is)
 
 pub returns-in-None : goal.returns-in-None
 returns-in-None c =
-    let place : c.position.result ≡ position differs c.records-records.result.now =
-    position_from_yields_List differs _ _ c.position.result c.position.ensures.ran (YieldsList-from_slice _ c.iter.ensures.rest)
-    (λ x b q k. search (rules, tests))
-    in
-    accepted _ _ c.in_ok-book.ensures c.records-records.ensures (sym place ∙ c.in-None.is)
+    let stop = stop_is (goal.at.returns-in-None c).After-position in
+    accepted _ _ c.in_ok-book.ensures c.records-records.ensures (sym stop ∙ c.in-None.is)

@@ -15,8 +15,8 @@ r_most c =
     let args = c.args in
     omega (arith, reduced_armour_resistance_most args.ra args.b, c.reduced_armour_resistance.ensures, c.requires.reduced)
 
-pub mul_div_up-requires : goal.mul_div_up-requires
-mul_div_up-requires c = let pre = c.requires.axis in
+pub mul_div-requires : goal.mul_div-requires
+mul_div-requires c = let pre = c.requires.axis in
     let place≤ : c.axis_ratio-place.result ≤ trillion =
     omega (arith, c.axis_ratio-place.ensures, axis_ratio_most c.args.c pre.d>0 pre.c_most)
     in
@@ -24,7 +24,7 @@ mul_div_up-requires c = let pre = c.requires.axis in
 
 pub returns : goal.returns
 unfolding unscreened_loss axis_ratio
-returns c = c.mul_div_up.ensures
+returns c = c.mul_div.ensures
     ∙ ap₂ (λ r place. up (123 * r * place) 100000000000000)
     c.reduced_armour_resistance.ensures
     c.axis_ratio-place.ensures

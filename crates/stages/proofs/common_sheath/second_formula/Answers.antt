@@ -1,39 +1,27 @@
 -- `stages::common_sheath::second_formula` is the definition: the numerator of two limbs, divided by 5 Rs and then by T, which is once by
 -- their product. The last quotient is one limb, since S is small.
-use Rattle.std.proofs.Common.{ap, arith, lit<, lt_of_le_of_lt, mul-le-mul, ℕ, ◌*◌, ◌+◌, ◌<◌, ◌^◌, ◌∙◌, ◌≡◌, ◌≤◌}
-use Rattle.std.proofs.Math.Path.{subst⁻¹}
+use Rattle.std.proofs.Common.{ap, arith, lit<, lt_of_le_of_lt, ℕ, ◌*◌, ◌+◌, ◌<◌, ◌^◌, ◌∙◌, ◌≡◌}
 use Rattle.exact.specs.Rounding.{up}
 use Rattle.exact.proofs.Laws.Rounding.{up_up}
 use Rattle.exact.specs.Trillion.{trillion}
 use Rattle.wide.specs.Limbs.{value}
 use Rattle.formulas.specs.Constants.{tera}
 use Rattle.formulas.specs.CommonSheath.{second_formula}
-use Rattle.formulas.specs.Laws.Bounds.{most_reactance}
 use Rattle.formulas.proofs.Laws.Ranges.{second_formula_most}
 use Rattle.stages.proofs.common_sheath.second_formula.Goals as goal
-use Rattle.stages.proofs.common_sheath.second_formula.Goals.{After-quotient_up}
-
--- 4B² b has 122 bits
-numerator_fits : (b ratio : ℕ) → b ≤ most_reactance → ratio ≤ trillion → 4 * b * b * ratio < 2 ^ 128
-numerator_fits b ratio b≤ ratio≤ =
-    let four≤ : 4 * b ≤ 4 * most_reactance = omega arith in
-    lt_of_le_of_lt (mul-le-mul (mul-le-mul four≤ b≤) ratio≤) (lit< tt)
-
-pub scaled-numerator-requires : goal.scaled-numerator-requires
-scaled-numerator-requires c = subst⁻¹ (λ n. n * c.args.ratio < 2 ^ 128) c.product.ensures
-    (numerator_fits _ _ c.requires.b_most c.requires.ratio_most)
+use Rattle.stages.proofs.common_sheath.second_formula.Goals.{After-quotient}
 
 S_is :
-    (c : After-quotient_up) →
+    (c : After-quotient) →
     let args = c.args in
-    value c.quotient_up.result ≡ second_formula args.b args.rs args.ratio
+    value c.quotient.result ≡ second_formula args.b args.rs args.ratio
 unfolding second_formula tera
 S_is c =
     let rs>0 : 0 < 5 * c.args.rs = omega (arith, c.requires.rs_above) in
     let squared = c.product.ensures in
     let numerator = c.scaled-numerator.ensures ∙ ap (λ n. n * c.args.ratio) squared in
-    c.quotient_up.ensures
-    ∙ ap (λ n. up n trillion) (c.quotient_up-share.ensures ∙ ap (λ n. up n (5 * c.args.rs)) numerator)
+    c.quotient.ensures
+    ∙ ap (λ n. up n trillion) (c.quotient-share.ensures ∙ ap (λ n. up n (5 * c.args.rs)) numerator)
     ∙ up_up _ rs>0 (lit< tt)
     ∙ ap (λ n. up n (5 * c.args.rs * trillion)) (omega arith)
 

@@ -7,7 +7,7 @@ use Rattle.stages.proofs.common_sheath.term.Goals as goal
 
 pub returns : goal.returns
 unfolding tera
-returns c = c.mul_div_up.ensures
+returns c = c.mul_div.ensures
 
-pub mul_div_up-requires : goal.mul_div_up-requires
-mul_div_up-requires c = quotient_up_fits trillion (omega arith) (omega (arith, c.requires.part_most)) tt
+pub mul_div-requires : goal.mul_div-requires
+mul_div-requires c = quotient_up_fits trillion (omega arith) (omega (arith, c.requires.part_most)) tt

@@ -12,17 +12,9 @@ voltage_most c = mul-le-mul c.requires.e_most (mul-le-mul c.requires.u0_most c.r
 product_most : (c : Start) → c.args.e * (c.args.u0 * c.args.u0) * c.args.t ≤ 720000000000000000
 product_most c = mul-le-mul (voltage_most c) c.requires.t_most
 
-pub mul_div_up-requires : goal.mul_div_up-requires
-mul_div_up-requires c =
+pub mul_div-requires : goal.mul_div-requires
+mul_div-requires c =
     quotient_up_fits most_dielectric_loss (omega arith) (omega (arith, mul-le-mul (product_most c) c.requires.b_most)) tt
-
-pub overflow_mul-u0 : goal.overflow_mul-u0
-unfolding dielectric_loss
-overflow_mul-u0 c = omega (arith, mul-le-mul c.requires.u0_most c.requires.u0_most)
-
-pub overflow_mul-e : goal.overflow_mul-e
-unfolding dielectric_loss
-overflow_mul-e c = omega (arith, voltage_most c)
 
 pub overflow_mul-e-2 : goal.overflow_mul-e-2
 unfolding dielectric_loss
@@ -30,4 +22,4 @@ overflow_mul-e-2 c = omega (arith, product_most c)
 
 pub returns : goal.returns
 unfolding dielectric_loss
-returns c = c.mul_div_up.ensures
+returns c = c.mul_div.ensures

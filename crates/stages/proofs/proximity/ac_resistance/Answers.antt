@@ -7,10 +7,10 @@ use Rattle.stages.proofs.Quotients.{fits_up}
 use Rattle.exact.specs.Trillion.{trillion}
 use Rattle.stages.proofs.proximity.ac_resistance.Goals as goal
 
-pub mul_div_up_trillion-requires : goal.mul_div_up_trillion-requires
-mul_div_up_trillion-requires c = let sum≤ : trillion + c.args.ys + c.args.yp ≤ 1934900000000 = omega arith in
+pub mul_div_trillion-requires : goal.mul_div_trillion-requires
+mul_div_trillion-requires c = let sum≤ : trillion + c.args.ys + c.args.yp ≤ 1934900000000 = omega arith in
     fits_up most_ac_resistance (lit< tt) (omega (arith, mul-le-mul c.requires.rc_most sum≤)) tt
 
 pub returns : goal.returns
 unfolding ac_resistance tera
-returns c = c.mul_div_up_trillion.ensures
+returns c = c.mul_div_trillion.ensures

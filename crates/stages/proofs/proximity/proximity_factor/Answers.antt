@@ -21,13 +21,13 @@ sum_most c =
       c.proximity_h.ensures,
     )
 
-pub mul_div_up_trillion-requires : goal.mul_div_up_trillion-requires
-mul_div_up_trillion-requires c = fits_up most_proximity_factor (lit< tt) (omega (arith, mul-le-mul c.requires.u_most (sum_most c))) tt
+pub mul_div_trillion-requires : goal.mul_div_trillion-requires
+mul_div_trillion-requires c = fits_up most_proximity_factor (lit< tt) (omega (arith, mul-le-mul c.requires.u_most (sum_most c))) tt
 
 pub returns : goal.returns
 unfolding proximity_factor tera
 returns c = let u = c.args.u in
-    c.mul_div_up_trillion.ensures
+    c.mul_div_trillion.ensures
     ∙ ap₂ (λ g h. up (u * (g + h)) trillion) c.proximity_g.ensures c.proximity_h.ensures
 
 pub overflow_add-proximity_g : goal.overflow_add-proximity_g

@@ -4,10 +4,10 @@ use Rattle.formulas.specs.Proximity.{proximity_g}
 use Rattle.stages.proofs.Quotients.{quotient_up_fits}
 use Rattle.stages.proofs.proximity.proximity_g.Goals as goal
 
-pub mul_div_up-requires : goal.mul_div_up-requires
+pub mul_div-requires : goal.mul_div-requires
 unfolding proximity_g
-mul_div_up-requires c = quotient_up_fits 80000000000 (lit< tt) (omega (arith, mul-le-mul c.requires.u_most c.requires.factor_most)) tt
+mul_div-requires c = quotient_up_fits 80000000000 (lit< tt) (omega (arith, mul-le-mul c.requires.u_most c.requires.factor_most)) tt
 
 pub returns : goal.returns
 unfolding proximity_g
-returns c = c.mul_div_up.ensures
+returns c = c.mul_div.ensures

@@ -5,10 +5,10 @@ use Rattle.formulas.specs.Proximity.{proximity_h}
 use Rattle.stages.proofs.Quotients.{quotient_up_fits}
 use Rattle.stages.proofs.proximity.proximity_h.Goals as goal
 
-pub mul_div_up-requires : goal.mul_div_up-requires
+pub mul_div-requires : goal.mul_div-requires
 unfolding proximity_h tera
-mul_div_up-requires c = quotient_up_fits 600000000000 (omega arith) (omega arith) tt
+mul_div-requires c = quotient_up_fits 600000000000 (omega arith) (omega arith) tt
 
 pub returns : goal.returns
 unfolding proximity_h tera
-returns c = c.mul_div_up.ensures
+returns c = c.mul_div.ensures

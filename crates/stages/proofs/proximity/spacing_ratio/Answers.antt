@@ -6,18 +6,10 @@ use Rattle.formulas.specs.Proximity.{spacing_ratio}
 use Rattle.stages.proofs.Quotients.{quotient_up_fits}
 use Rattle.stages.proofs.proximity.spacing_ratio.Goals as goal
 
-pub mul_div_up-requires : goal.mul_div_up-requires
-mul_div_up-requires c = let s²>0 = mul-pos c.requires.s>0 c.requires.s>0 in
+pub mul_div-requires : goal.mul_div-requires
+mul_div-requires c = let s²>0 = mul-pos c.requires.s>0 c.requires.s>0 in
     quotient_up_fits trillion s²>0 (omega (arith, mul-le-mul c.requires.apart c.requires.apart)) tt
-
-pub overflow_mul-dc : goal.overflow_mul-dc
-unfolding spacing_ratio tera
-overflow_mul-dc c = omega (arith, mul-le-mul c.requires.apart c.requires.apart, mul-le-mul c.requires.s_most c.requires.s_most)
-
-pub overflow_mul-s : goal.overflow_mul-s
-unfolding spacing_ratio tera
-overflow_mul-s c = omega (arith, mul-le-mul c.requires.s_most c.requires.s_most)
 
 pub returns : goal.returns
 unfolding spacing_ratio tera
-returns c = c.mul_div_up.ensures
+returns c = c.mul_div.ensures

@@ -8,8 +8,8 @@ use Rattle.stages.proofs.rating.rating.Goals as goal
 
 pub returns : goal.returns
 unfolding rating
-returns c = let q = c.mul_div_down in
+returns c = let q = c.mul_div in
     root_only c.root.ensures (root_is q.result) ∙ ap root q.ensures
 
-pub mul_div_down-requires : goal.mul_div_down-requires
-mul_div_down-requires c = quotient_down_fits 80000000000000000 (omega arith) (omega arith) tt
+pub mul_div-requires : goal.mul_div-requires
+mul_div-requires c = quotient_down_fits 80000000000000000 (omega arith) (omega arith) tt

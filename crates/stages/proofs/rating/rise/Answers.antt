@@ -10,9 +10,9 @@ returns c = let r*t≤ : c.args.r * c.args.t ≤ most_part_rise * 1000000 =
     mul-le-mul c.requires.r_most c.requires.t_most
     in
     record {
-      rise_is = c.mul_div_up.ensures;
-      rise_most = omega (arith, c.mul_div_up.ensures, up_least _ most_part_rise {b = 1000000} (lit< tt) r*t≤);
+      rise_is = c.mul_div.ensures;
+      rise_most = omega (arith, c.mul_div.ensures, up_least _ most_part_rise {b = 1000000} (lit< tt) r*t≤);
     }
 
-pub mul_div_up-requires : goal.mul_div_up-requires
-mul_div_up-requires c = quotient_up_fits most_part_rise (lit< tt) (mul-le-mul c.requires.r_most c.requires.t_most) tt
+pub mul_div-requires : goal.mul_div-requires
+mul_div-requires c = quotient_up_fits most_part_rise (lit< tt) (mul-le-mul c.requires.r_most c.requires.t_most) tt

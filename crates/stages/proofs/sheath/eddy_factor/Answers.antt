@@ -1,4 +1,4 @@
--- `stages::sheath::eddy_factor` is the definition: m, its square, and the quotient of that.
+-- `stages::sheath::eddy_factor` is the definition: the square of m, and the quotient of that.
 use Rattle.std.proofs.Common.{ap, arith, ◌*◌, ◌+◌, ◌∙◌, ◌≡◌, ◌≤◌}
 use Rattle.exact.specs.Rounding.{up}
 use Rattle.exact.specs.Trillion.{trillion}
@@ -9,36 +9,26 @@ use Rattle.formulas.proofs.Laws.Ranges.{eddy_ratio_most, eddy_ratio_squared_most
 use Rattle.formulas.specs.Laws.Bounds.{most_eddy_ratio, most_eddy_factor}
 use Rattle.stages.proofs.Quotients.{quotient_up_fits, square_fits}
 use Rattle.stages.proofs.sheath.eddy_factor.Goals as goal
-use Rattle.stages.proofs.sheath.eddy_factor.Goals.{After-mul_div_up_trillion-m2}
+use Rattle.stages.proofs.sheath.eddy_factor.Goals.{After-ratio_squared-m2}
 
-m2_is :
-    (c : After-mul_div_up_trillion-m2) →
-    c.mul_div_up_trillion-m2.result ≡ eddy_ratio_squared (eddy_ratio c.args.b c.args.rs)
+m2_is : (c : After-ratio_squared-m2) → c.ratio_squared-m2.result ≡ eddy_ratio_squared (eddy_ratio c.args.b c.args.rs)
 unfolding eddy_ratio_squared eddy_ratio tera
-m2_is c = c.mul_div_up_trillion-m2.ensures ∙ ap (λ m. up (m * m) trillion) c.mul_div_up-m.ensures
+m2_is c = c.ratio_squared-m2.ensures
 
-m2_most : (c : After-mul_div_up_trillion-m2) → c.mul_div_up_trillion-m2.result ≤ most_eddy_factor
+m2_most : (c : After-ratio_squared-m2) → c.ratio_squared-m2.result ≤ most_eddy_factor
 m2_most c =
     let pre = c.requires in
     omega (arith, m2_is c, eddy_ratio_squared_most (eddy_ratio_most c.args.b pre.rs>0 pre.b_most))
 
-pub mul_div_up-m-requires : goal.mul_div_up-m-requires
-unfolding eddy_factor tera
-mul_div_up-m-requires c = quotient_up_fits most_eddy_ratio (omega arith) (omega arith) tt
-
-pub mul_div_up_trillion-m2-requires : goal.mul_div_up_trillion-m2-requires
-unfolding eddy_factor tera
-mul_div_up_trillion-m2-requires c =
-    square_fits up_bounded most_eddy_ratio most_eddy_factor c.mul_div_up-m.ensures (omega arith) (omega arith) tt tt
+pub ratio_squared-m2-requires : goal.ratio_squared-m2-requires
+ratio_squared-m2-requires c = square_fits up_bounded most_eddy_ratio most_eddy_factor (omega arith) (omega arith) tt tt tt
 
 pub overflow_add-m2 : goal.overflow_add-m2
-unfolding eddy_factor tera
 overflow_add-m2 c = omega (arith, m2_most c)
 
-pub mul_div_up-requires : goal.mul_div_up-requires
-unfolding eddy_factor tera
-mul_div_up-requires c = quotient_up_fits most_eddy_factor (omega arith) (omega (arith, m2_most c)) tt
+pub mul_div-requires : goal.mul_div-requires
+mul_div-requires c = quotient_up_fits most_eddy_factor (omega arith) (omega (arith, m2_most c)) tt
 
 pub returns : goal.returns
 unfolding eddy_factor tera
-returns c = c.mul_div_up.ensures ∙ ap (λ m2. up (m2 * trillion) (trillion + m2)) (m2_is (goal.at.returns c).After-mul_div_up_trillion-m2)
+returns c = c.mul_div.ensures ∙ ap (λ m2. up (m2 * trillion) (trillion + m2)) (m2_is (goal.at.returns c).After-ratio_squared-m2)

@@ -1,10 +1,10 @@
--- `stages::sheath::sl_loss` is the definition, as code rounds up.
-use Rattle.std.proofs.Common.{ap, arith, sym, ◌*◌, ◌∙◌, ◌≤◌}
+-- `stages::sheath::sl_loss` is the definition, as the library rounds up.
+use Rattle.std.proofs.Common.{ap, arith, lit<, ◌*◌, ◌∙◌, ◌≤◌}
 use Rattle.exact.specs.Rounding.{up}
-use Rattle.exact.proofs.Laws.Rounding.{up_code}
 use Rattle.formulas.specs.Sheath.{three_halves, sl_loss}
 use Rattle.formulas.proofs.Laws.Ranges.{circulating_loss_most}
 use Rattle.formulas.specs.Laws.Bounds.{most_resistance}
+use Rattle.stages.proofs.Quotients.{ceiling}
 use Rattle.stages.proofs.sheath.sl_loss.Goals as goal
 use Rattle.stages.proofs.sheath.sl_loss.Goals.{After-circulating_loss}
 
@@ -15,10 +15,7 @@ s_most c =
 
 pub returns : goal.returns
 unfolding sl_loss three_halves
-returns c = sym (up_code (3 * c.circulating_loss.result) 2) ∙ ap (λ s. up (3 * s) 2) c.circulating_loss.ensures
+returns c = c.div_ceil.ensures ∙ ceiling (3 * c.circulating_loss.result) (lit< tt) ∙ ap (λ s. up (3 * s) 2) c.circulating_loss.ensures
 
-pub overflow_mul-result : goal.overflow_mul-result
-overflow_mul-result c = omega (arith, s_most c)
-
-pub overflow_add-result : goal.overflow_add-result
-overflow_add-result c = omega (arith, s_most c)
+pub overflow_mul-circulating_loss : goal.overflow_mul-circulating_loss
+overflow_mul-circulating_loss c = omega (arith, s_most c)

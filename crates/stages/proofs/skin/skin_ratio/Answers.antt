@@ -9,8 +9,8 @@ use Rattle.formulas.specs.Laws.Bounds.{most_skin_reactance}
 use Rattle.stages.proofs.Quotients.{quotient_up_fits}
 use Rattle.stages.proofs.skin.skin_ratio.Goals as goal
 
-pub mul_div_up-requires : goal.mul_div_up-requires
-mul_div_up-requires c = let pre = c.requires.reactance in
+pub mul_div-requires : goal.mul_div-requires
+mul_div-requires c = let pre = c.requires.reactance in
     let a≤ : c.skin_reactance.result ≤ most_skin_reactance =
     omega (arith, skin_reactance_most pre.f_most pre.k_most, c.skin_reactance.ensures)
     in
@@ -18,5 +18,5 @@ mul_div_up-requires c = let pre = c.requires.reactance in
 
 pub returns : goal.returns
 unfolding skin_ratio tera
-returns c = c.mul_div_up.ensures
+returns c = c.mul_div.ensures
     ∙ ap (λ a. up (a * trillion) c.args.rc) c.skin_reactance.ensures

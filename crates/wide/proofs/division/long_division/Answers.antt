@@ -2,11 +2,14 @@
 -- the numbers as they were. Assumes nothing.
 use Rattle.std.proofs.Common.{ap, arith, mul-le-mul_right, pow-add, pow_pos, subst, sym, ℕ, ◌%◌, ◌*◌, ◌+◌, ◌-◌, ◌/◌, ◌<◌, ◌^◌, ◌∙◌, ◌≡◌}
 use Rattle.std.proofs.Math.Nat.{mul-div-mul_right, div-div-eq-div-mul}
+use Rattle.std.specs.Int.{w64, leading_zeros}
+use Rattle.wide.specs.Limbs.{value}
 use Rattle.wide.specs.Shift.{IsShift}
 use Rattle.wide.specs.Split.{Split}
 use Rattle.wide.proofs.LongDivision.{one_limb, shifted_is, shifted_below, long_is}
+use Rattle.wide.proofs.Shift.{leading_zeros_shift}
 use Rattle.wide.proofs.division.long_division.Goals as goal
-use Rattle.wide.proofs.division.long_division.Goals.{After-digit-second, After-shift_of-s}
+use Rattle.wide.proofs.division.long_division.Goals.{After-digit-second}
 
 -- the bits of l that a shift by s moves out, taken by a shift the other way
 moved_out : (l s : ℕ) → s < 64 → l / 2 / 2 ^ (63 - s) ≡ l * 2 ^ s / 2 ^ 64
@@ -22,47 +25,57 @@ moved_out l s s<64 =
 abbrev top : ℕ → ℕ → ℕ → ℕ
 top h l s = h * 2 ^ s % 2 ^ 64 + l / 2 / 2 ^ (63 - s)
 
-module _ (h l c s : ℕ) (h<c : h < c) (l< : l < 2 ^ 64) (shift : IsShift c s) where
-  top_is : h * 2 ^ s + l * 2 ^ s / 2 ^ 64 ≡ top h l s
-  top_is = omega (arith, moved_out l s shift.small, mul-le-mul_right {m = h} {n = c} (2 ^ s) (omega arith))
+abbrev z : ℕ → ℕ
+z c = leading_zeros w64 c
 
-  top_below : top h l s < c * 2 ^ s
-  top_below = subst (λ (x : ℕ). x < c * 2 ^ s) top_is (shifted_below h l c (2 ^ s) (2 ^ 64) (pow_pos s) h<c l<)
+is_shift : {h c : ℕ} → h < c → c < 2 ^ 64 → IsShift c (z c)
+is_shift {h} {c} h<c c< = leading_zeros_shift c (omega arith) c<
 
-  number_is : top h l s * 2 ^ 64 + l * 2 ^ s % 2 ^ 64 ≡ (h * 2 ^ 64 + l) * 2 ^ s
+module _ (h l c : ℕ) (h<c : h < c) (l< : l < 2 ^ 64) (c< : c < 2 ^ 64) where
+  top_is : h * 2 ^ z c + l * 2 ^ z c / 2 ^ 64 ≡ top h l (z c)
+  top_is =
+      let shift = is_shift h<c c< in
+      omega (arith, shift.most, moved_out l (z c) shift.small, mul-le-mul_right {m = h} {n = c} (2 ^ z c) (omega arith))
+
+  top_below : top h l (z c) < c * 2 ^ z c
+  top_below =
+      let p = 2 ^ z c in
+      subst (λ (x : ℕ). x < c * p) top_is (shifted_below h l c p (2 ^ 64) (pow_pos (z c)) h<c l<)
+
+  number_is : top h l (z c) * 2 ^ 64 + l * 2 ^ z c % 2 ^ 64 ≡ (h * 2 ^ 64 + l) * 2 ^ z c
   number_is =
-      subst (λ (x : ℕ). x * 2 ^ 64 + l * 2 ^ s % 2 ^ 64 ≡ (h * 2 ^ 64 + l) * 2 ^ s) top_is
-      (shifted_is h l (2 ^ s) (2 ^ 64))
-
-u_below : (c : After-shift_of-s) →
-    let a = c.args in top a.hi a.lo c.shift_of-s.result < a.c * 2 ^ c.shift_of-s.result
-u_below c =
-    let a = c.args in
-    top_below a.hi a.lo a.c c.shift_of-s.result c.requires (omega arith) c.shift_of-s.ensures
+      let p = 2 ^ z c in
+      subst (λ (x : ℕ). x * 2 ^ 64 + l * p % 2 ^ 64 ≡ (h * 2 ^ 64 + l) * p) top_is (shifted_is h l p (2 ^ 64))
 
 answer : (c : After-digit-second) →
     let a = c.args in
-    Split (a.hi * 2 ^ 64 + a.lo) a.c
-    (c.digit-first.result.quotient * 4294967296 + c.digit-second.result.quotient)
-    (c.digit-second.result.rest / 2 ^ c.shift_of-s.result)
+    Split (value a.n) a.c (c.digit-first.result.quotient * 4294967296 + c.digit-second.result.quotient) (c.digit-second.result.rest / 2 ^ z a.c)
+unfolding value
 answer c =
     let a = c.args in
-    let s = c.shift_of-s.result in
-    long_is a.hi a.lo a.c (2 ^ s) _ _ (pow_pos s)
-    (number_is a.hi a.lo a.c s c.requires (omega arith) c.shift_of-s.ensures)
-    (omega arith)
+    long_is a.n.hi a.n.lo a.c (2 ^ z a.c) _ _ (pow_pos (z a.c))
+    (number_is a.n.hi a.n.lo a.c c.requires (omega arith) (omega arith))
+    (omega (arith, (is_shift c.requires (omega arith)).most))
     c.digit-first.ensures
     c.digit-second.ensures
 
 quotient_fits : (c : After-digit-second) → c.digit-first.result.quotient * 4294967296 + c.digit-second.result.quotient < 2 ^ 64
-quotient_fits c =
-    one_limb c.args.hi c.args.lo c.requires (omega arith) (answer c)
+unfolding value
+quotient_fits c = one_limb c.args.n.hi c.args.n.lo c.requires (omega arith) (answer c)
 
 pub overflow_add-u : goal.overflow_add-u
-overflow_add-u c = omega (arith, u_below c)
+overflow_add-u c = let a = c.args in
+    let most = (is_shift c.requires (omega arith)).most in
+    omega (arith, most, top_below a.n.hi a.n.lo a.c c.requires (omega arith) (omega arith))
 
 pub digit-first-requires : goal.digit-first-requires
-digit-first-requires c = omega (arith, u_below c)
+digit-first-requires c = let a = c.args in
+    let shift = is_shift c.requires (omega arith) in
+    omega (arith, shift.least, shift.most, top_below a.n.hi a.n.lo a.c c.requires (omega arith) (omega arith))
+
+pub digit-second-requires : goal.digit-second-requires
+digit-second-requires c = let shift = is_shift c.requires (omega arith) in
+    omega (arith, shift.least, shift.most)
 
 pub overflow_mul-result : goal.overflow_mul-result
 overflow_mul-result c = omega (arith, quotient_fits (goal.at.overflow_mul-result c).After-digit-second)

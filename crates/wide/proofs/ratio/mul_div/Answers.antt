@@ -1,16 +1,9 @@
 -- `wide::ratio::mul_div` meets its contract: the quotient fits, so the product's upper limb is below the divisor.
 -- Assumes nothing.
-use Rattle.std.proofs.Common.{subst, ℕ, ◌^◌}
 use Rattle.wide.specs.Limbs.{value}
-use Rattle.wide.specs.Split.{Split}
-use Rattle.wide.specs.Laws.Split.{high_below}
+use Rattle.wide.proofs.Carried.{high_fits}
 use Rattle.wide.proofs.ratio.mul_div.Goals as goal
 
-pub divide-requires : goal.divide-requires
+pub divide-d-requires : goal.divide-d-requires
 unfolding value
-divide-requires c = high_below c.product-n.result.hi c.product-n.result.lo (2 ^ 64) c.requires.c>0 c.product-n.ensures c.requires.fits
-
-pub returns : goal.returns
-unfolding value
-returns c = let d = c.divide.result in
-    subst (λ (n : ℕ). Split n c.args.c d.quotient d.rest) c.product-n.ensures c.divide.ensures
+divide-d-requires g c = high_fits _ g.met.R.Rounding.rounds _ _ c.requires.c>0 c.product-n.ensures c.requires.fits

@@ -1,7 +1,0 @@
--- `geometry_refused` is the definition: each test is its test.
-use Rattle.rating.specs.FieldRefusals.{geometry_refused}
-use Rattle.rating.proofs.field_refusals.geometry_refused.Goals as goal
-
-pub returns : goal.returns
-unfolding geometry_refused
-returns c = simp (c.number.ensures.same, c.number-2.ensures.same, c.requires)

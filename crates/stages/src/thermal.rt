@@ -1,0 +1,8 @@
+// The thermal resistances T1 to T4 of docs/RATING.md, which stages 9 and 10 take together.
+#[derive(Clone, Copy)]
+pub struct Thermal {
+    pub t1: u64,
+    pub t2: u64,
+    pub t3: u64,
+    pub t4: u64,
+}

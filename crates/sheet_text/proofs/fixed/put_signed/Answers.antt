@@ -1,5 +1,6 @@
 -- `sheet_text::fixed::put_signed` meets its contract: the sign, and the digits after it. Assumes nothing.
-use Rattle.std.proofs.Common.{append_assoc, ap, lit<, List, [], ◌++◌, ◌∙◌, ◌∷◌, ◌≡◌, ◌<ℤ◌, ◌≤ℤ◌, ℕ, ℤ, pos, negsuc, refl, rules, unsigned_abs}
+use Rattle.std.proofs.Common.{append_assoc, ap, lit<, negsuc, pos, refl, rules, unsigned_abs, List, [], ℕ, ℤ}
+use Rattle.std.proofs.Common.{◌++◌, ◌<ℤ◌, ◌∙◌, ◌∷◌, ◌≡◌, ◌≤ℤ◌}
 use Rattle.std.proofs.lemmas.Int.{to_z-of_z}
 use Rattle.sheet_text.specs.Fixed.{fixed, signed}
 use Rattle.sheet_text.proofs.fixed.put_signed.Goals as goal
@@ -20,8 +21,9 @@ returns g c =
     let x = c.args.x in
     let digits = fixed c.args.decimals (unsigned_abs x) in
     let text = c.args.out.now.bytes in
+    let size : c.unsigned_abs.result ≡ unsigned_abs x = c.unsigned_abs.ensures.value ∙ search (rules, to_z-of_z) in
     let joined : c.put_fixed.new.out.bytes ≡ c.if-below_zero.out.bytes ++ digits =
-    c.put_fixed.ensures ∙ ap (λ (n : ℕ). c.if-below_zero.out.bytes ++ fixed c.args.decimals n) (c.unsigned_abs.ensures.value ∙ search (rules, to_z-of_z)) in
+    c.put_fixed.ensures ∙ ap (λ (n : ℕ). c.if-below_zero.out.bytes ++ fixed c.args.decimals n) size in
     elim c.if-below_zero.branch [
       | then-below_zero w ↦
           joined

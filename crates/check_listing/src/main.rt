@@ -4,17 +4,13 @@
 // last and adjacent places.
 #![tactic(auto)]
 
-use arrayvec::ArrayString;
 use book::append::append;
 use book::start::start;
 use book_bytes::layout::{RECORD_LENGTH, TRAILER_LENGTH};
 use book_bytes::refusal::Refusal;
 use fields::WIDTH;
-use list_text::list_book;
+use list_text::{MOST, list_book};
 use std::io::Write;
-
-// The most bytes of a book, and of its listing.
-const MOST: usize = 65536;
 
 type Book = [u8; MOST];
 
@@ -44,9 +40,7 @@ fn changed(mut book: Book, at: usize, byte: u8) -> Book {
 
 // A listing that cannot be written is missing from what is printed, which is compared.
 fn show<W: Write>(to: &mut W, book: &Book, used: usize) {
-    let mut listing = ArrayString::<MOST>::new();
-    list_book(book, used, &mut listing);
-    let _ = to.write_all(listing.as_str().as_bytes());
+    let _ = to.write_all(list_book(book, used).as_str().as_bytes());
 }
 
 // Four cases, and another rating in the records of these indices.

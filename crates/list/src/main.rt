@@ -4,11 +4,8 @@
 
 ghost use Rattle.std.specs.Prelude.{◌≤◌, length};
 
-use arrayvec::ArrayString;
+use list_text::{MOST, list_book};
 use std::io::{Read, Write};
-
-// The most bytes of a book, and of its listing.
-const MOST: usize = 65536;
 
 // The input's next bytes at the front of `buffer`, and how many: as many as it has room for, or all
 // to the end of the input, or to where reading fails. std's read_exact does not say how many it read
@@ -31,7 +28,6 @@ fn read_full<R: Read>(source: &mut R, buffer: &mut [u8]) -> usize
 fn main(rt: HostRuntime) {
     let mut buffer = [0; MOST + 1];
     let used = read_full(&mut rt.stdin(), &mut buffer);
-    let mut listing = ArrayString::<MOST>::new();
-    list_text::list_book(&buffer[..used.min(MOST)], used, &mut listing);
+    let listing = list_book(buffer.first_chunk().unwrap(), used);
     let _ = rt.stdout().write_all(listing.as_str().as_bytes());
 }

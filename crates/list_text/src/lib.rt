@@ -68,19 +68,22 @@ fn put_refusal<const N: usize>(out: &mut ArrayString<N>, refusal: Refusal)
     }
 }
 
-// Appends the listing of a book of at most 65536 bytes, which has at most as many. A used length over
-// the book's is refused by 20.
-pub fn list_book<const N: usize>(book: &[u8], used: usize, out: &mut ArrayString<N>)
-    requires book_most { length book.now ≤ 65536 }
-    requires room { array_string_len out.old + 65536 ≤ N }
-    ensures value { out.new.bytes ≡ out.old.bytes ++ listing_of book.now used }
-    ensures upper_bound { length (listing_of book.now used) ≤ 65536 }
+// The most bytes of a book that is listed, and of its listing.
+pub const MOST: usize = 65536;
+
+pub type Listing = ArrayString<MOST>;
+
+// The listing of a book in a buffer of as many bytes, which always fits. A used length over the buffer's is refused by 20.
+pub fn list_book(book: &[u8; MOST], used: usize) -> Listing
+    ensures { result.bytes ≡ listing_of book.now used }
 {
+    let mut out = Listing::new();
     match accept(book, used) {
         Ok(accepted) => {
-            put_line(out, "book ", accepted.count as u64);
-            put_records(out, book, accepted.note, accepted.count);
+            put_line(&mut out, "book ", accepted.count as u64);
+            put_records(&mut out, book, accepted.note, accepted.count);
         }
-        Err(refusal) => put_refusal(out, refusal),
+        Err(refusal) => put_refusal(&mut out, refusal),
     }
+    out
 }

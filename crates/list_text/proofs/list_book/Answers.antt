@@ -1,7 +1,7 @@
 -- `list_text::list_book` meets its contract: the first line and the records, or the refusal. The count of a book within 65536 bytes
 -- leaves room for its lines. Assumes nothing.
-use Rattle.std.proofs.Common.{append_assoc, ap, arith, eqb, false, length, length-append, refl, rules, subst, sym, List, Ok, Err, ℕ}
-use Rattle.std.proofs.Common.{◌++◌, ◌+◌, ◌∙◌, ◌≡◌, ◌≤◌}
+use Rattle.std.proofs.Common.{ap, arith, eqb, false, length, refl, rules, subst, sym, List, Ok, Err, ℕ}
+use Rattle.std.proofs.Common.{◌++◌, ◌∙◌, ◌≡◌}
 use Rattle.book.specs.declared.accept.Accepted.{Accepted}
 use Rattle.book.specs.Answers.{acceptance_of}
 use Rattle.book_bytes.specs.declared.refusal.Refusal.{Refusal}
@@ -13,10 +13,6 @@ use Rattle.book_laws.proofs.Laws.Accept.{Counted, count_within}
 use Rattle.book_laws.specs.Layout.{rbk1}
 use Rattle.list_text.specs.Listing.{record_lines, book_line, refusal_line, listing_for, listing_of}
 use Rattle.list_text.proofs.list_book.Goals as goal
-
--- what was appended is as long as the text has grown
-grown : (text more : List ℕ) {all : List ℕ} → all ≡ text ++ more → length all ≤ length text + 65536 → length more ≤ 65536
-grown text more is h = omega (arith, ap length is, length-append text more)
 
 some_number : (r : Refusal) → eqb (number_of r) 0 ≡ false
 some_number Length = refl
@@ -41,30 +37,23 @@ module _ (b : List ℕ) (used : ℕ) where
   of_refusal r is = sym (simp (some_number r)) ∙ ap (listing_for rbk1 b) is
 
 pub put_records-requires : goal.put_records-requires
-put_records-requires g c =
-    let within = (counted _ _ c.in-Ok.ensures).within in (search rules, (omega (arith, within, c.put_line.ensures.within), within))
+put_records-requires c =
+    let within = (counted _ _ c.in-Ok.ensures).within in
+    (search rules, (omega (arith, within, c.put_line.ensures.within, ap length c.new-out.ensures), within))
 
 pub returns-in-Ok : goal.returns-in-Ok
 unfolding book_line
-returns-in-Ok g c =
+returns-in-Ok c =
     let a = c.in-Ok.accepted in
-    let text = c.args.out.now.bytes in
     let lines = record_lines rbk1 c.args.book.now a.note a.count in
-    let listed : c.put_records.new.out.bytes ≡ text ++ listing_of c.args.book.now c.args.used =
-    c.put_records.ensures.text
-    ∙ ap (λ (t : List ℕ). t ++ lines) c.put_line.ensures.text
-    ∙ append_assoc text (book_line a.count) lines
-    ∙ ap (λ (t : List ℕ). text ++ t) (of_book _ _ a c.in-Ok.ensures)
+    let headed : c.put_line.new.out.bytes ≡ book_line a.count =
+    c.put_line.ensures.text ∙ ap (λ (t : List ℕ). t ++ book_line a.count) c.new-out.ensures
     in
-    let within = (counted _ _ c.in-Ok.ensures).within in
-    let fits : length c.put_records.new.out.bytes ≤ length text + 65536 =
-    omega (arith, within, c.put_records.ensures.within, c.put_line.ensures.within) in
-    record { value = listed; upper_bound = grown text _ listed fits }
+    c.put_records.ensures.text ∙ ap (λ (t : List ℕ). t ++ lines) headed ∙ of_book _ _ a c.in-Ok.ensures
 
 pub returns-in-Err : goal.returns-in-Err
-returns-in-Err g c =
-    let text = c.args.out.now.bytes in
-    let listed : c.put_refusal.new.out.bytes ≡ text ++ listing_of c.args.book.now c.args.used =
-    c.put_refusal.ensures.text ∙ ap (λ (t : List ℕ). text ++ t) (of_refusal _ _ c.in-Err.refusal c.in-Err.ensures)
-    in
-    record { value = listed; upper_bound = grown text _ listed (omega (arith, c.put_refusal.ensures.within)) }
+returns-in-Err c =
+    let r = c.in-Err.refusal in
+    c.put_refusal.ensures.text
+    ∙ ap (λ (t : List ℕ). t ++ refusal_line (number_of r) (named_by r)) c.new-out.ensures
+    ∙ of_refusal _ _ r c.in-Err.ensures

@@ -23,11 +23,16 @@ kept_start room from to s = start room (to - from) (drop from s)
 part_put : (l : List ℕ) (at : ℕ) (vs : List ℕ) → put_mid at (length vs) l vs ≡ splice l at vs
 unfolding splice
 part_put l at vs =
-    sym (append_assoc (take at l) vs (drop (length vs) (drop at l))) ∙ ap (λ (t : List ℕ). take at l ++ vs ++ t) (drop-drop (length vs) at l)
+    sym (append_assoc (take at l) vs (drop (length vs) (drop at l)))
+    ∙ ap (λ (t : List ℕ). take at l ++ vs ++ t) (drop-drop (length vs) at l)
 
 none_put : (l : List ℕ) (at : ℕ) (vs : List ℕ) → length vs ≡ 0 → l ≡ splice l at vs
 unfolding splice
-none_put l at [] e = sym (ap (λ (t : List ℕ). t ++ drop (at + 0) l) (append-nil (take at l)) ∙ ap (λ (n : ℕ). take at l ++ drop n l) (add-zero at) ∙ take-append-drop at l)
+none_put l at [] e =
+    sym
+    (ap (λ (t : List ℕ). t ++ drop (at + 0) l) (append-nil (take at l))
+    ∙ ap (λ (n : ℕ). take at l ++ drop n l) (add-zero at)
+    ∙ take-append-drop at l)
 none_put l at (v ∷ vs) e = absurd (omega arith)
 
 count_is : (c : After-min-count)

@@ -29,7 +29,9 @@ other b h = go (eqb b 10) h
 first : (s : List ℕ) (r : Option ℕ) → IsFirstByte (is_byte 10) s r → unwrap_or r (length s) ≡ run_end is_in_line s 0
 unfolding is_in_line
 first s None none =
-    sym (passed is_in_line s (length s) (omega arith) (λ i h. other _ (none i (omega arith) h)) ∙ run_end_past is_in_line s (length s) (omega arith))
+    sym
+    (passed is_in_line s (length s) (omega arith) (λ i h. other _ (none i (omega arith) h))
+    ∙ run_end_past is_in_line s (length s) (omega arith))
 first s (Some k) at =
     sym (passed is_in_line s k (omega (arith, at.0.high)) (λ i h. other _ (at.0.before i (omega arith) h))
     ∙ run_stop is_in_line s k at.0.high (ap not at.1))
@@ -40,7 +42,9 @@ returns-in-Some c =
     let rest : c.in-Some.rest.now ≡ drop c.args.from whole =
     c.in-Some.ensures.lookup.0.2 ∙ take_all _ (drop c.args.from whole) (omega (arith, length-drop c.args.from whole))
     in
-    let to : run_end is_in_line c.in-Some.rest.now 0 ≡ 0 + run is_in_line (drop c.args.from whole) = ap (λ (t : List ℕ). 0 + run is_in_line t) rest in
+    let to : run_end is_in_line c.in-Some.rest.now 0 ≡ 0 + run is_in_line (drop c.args.from whole) =
+    ap (λ (t : List ℕ). 0 + run is_in_line t) rest
+    in
     omega (arith, first _ _ c.memchr.ensures, c.unwrap_or.ensures)
 
 pub returns-in-None : goal.returns-in-None

@@ -20,7 +20,9 @@ last_byte (b ∷ l) =
     let s = b ∷ l in
     let n = length s - 1 in
     let end : length s ≤ suc n = omega arith in
-    let last : drop n s ≡ get_or s n 0 ∷ [] = drop-cons s n 0 (omega arith) ∙ ap (λ (t : List ℕ). get_or s n 0 ∷ t) (drop_of_length-le s end) in
+    let last : drop n s ≡ get_or s n 0 ∷ [] =
+    drop-cons s n 0 (omega arith) ∙ ap (λ (t : List ℕ). get_or s n 0 ∷ t) (drop_of_length-le s end)
+    in
     ap (λ (t : List ℕ). pointwise eqb t (13 ∷ [])) last ∙ and-true (eqb (get_or s n 0) 13)
 
 text_is : (line : Bor (List ℕ)) (r : Option (Bor (List ℕ))) →

@@ -46,14 +46,19 @@ loop-i-preserved c = let on = c.loop-i.invariant in
     record {
       few = omega arith;
       small = subst (λ (v : ℕ). v < 10 ^ (i + 1)) read (small_more i _ b on.small digit.1);
-      digits = subst (λ (n : ℕ). DigitsIn a.s.now a.from n (c.loop-i.value * 10 + c.from.result)) next (subst (DigitsIn a.s.now a.from (a.from + i + 1)) read more);
+      digits =
+          subst (λ (n : ℕ). DigitsIn a.s.now a.from n (c.loop-i.value * 10 + c.from.result)) next
+          (subst (DigitsIn a.s.now a.from (a.from + i + 1)) read more);
       same_end = ap (run_end is_digit a.s.now) (sym next) ∙ sym further ∙ on.same_end;
     }
 
 pub returns-then-not-is_ascii_digit : goal.returns-then-not-is_ascii_digit
 unfolding is_digit
 returns-then-not-is_ascii_digit c =
-    record { end = no_digit c.loop-i.invariant (omega arith) (sym c.if-not-is_ascii_digit.ensures.value); digits = c.loop-i.invariant.digits }
+    record {
+      end = no_digit c.loop-i.invariant (omega arith) (sym c.if-not-is_ascii_digit.ensures.value);
+      digits = c.loop-i.invariant.digits;
+    }
 
 pub returns : goal.returns
 returns c =

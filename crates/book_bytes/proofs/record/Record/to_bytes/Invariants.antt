@@ -8,4 +8,5 @@ use Rattle.book_bytes.proofs.record.Record.to_bytes.Given as goal
 
 abbrev pub invariant-loop-i : goal.invariant-loop-i
 invariant-loop-i l =
-    (length l.stored ≡ record_length rbk1) × (l.stored ≡ splice (replicate (record_length rbk1) 0) 0 (words_bytes (take l.i (fields_in l.self))))
+    (length l.stored ≡ record_length rbk1)
+    × (l.stored ≡ splice (replicate (record_length rbk1) 0) 0 (words_bytes (take l.i (fields_in l.self))))

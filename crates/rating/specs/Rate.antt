@@ -19,10 +19,10 @@ pub record Answer : Type 0 where
 unfoldable pub refused : ℕ → Answer
 refused n = record { number = n; rating = 0; sheet = replicate 13 0 }
 
--- what `rate` returns, as an answer
+-- what `rate` returns, as an answer. A refusal's stands written out, so that a crate above reads it and names no more than this.
 abbrev pub answer_of : Result Rated Refusal → Answer
 answer_of (Ok r) = record { number = 0; rating = r.rating; sheet = r.sheet }
-answer_of (Err refusal) = refused (number_of refusal)
+answer_of (Err refusal) = record { number = number_of refusal; rating = 0; sheet = replicate 13 0 }
 
 -- R', Rs, RA, B, ys, yp, R, X, S, W, Wd, dd, E
 unfoldable pub sheet_of : List ℕ → List ℕ

@@ -25,6 +25,7 @@ impl Arrangement for BothEnds {
         }
     }
 
+    #[tactic(auto, using(crate::proofs::SheathReactance::X_is), unfolding(crate::specs::BothEnds::both_ends))]
     fn losses(&self, fit: &FitCase) -> Losses {
         let reactance = fit.sheath_reactance::<Up>(fit.b);
         Losses {

@@ -26,6 +26,7 @@ impl Arrangement for CommonSheath {
         }
     }
 
+    #[tactic(auto, unfolding(crate::specs::CommonSheath::common_sheath))]
     fn losses(&self, fit: &FitCase) -> Losses {
         let x = &fit.case.x;
         Losses {

@@ -13,6 +13,7 @@ use stages::logarithm::log;
 use wide::rounding::Down;
 
 impl SoundCase {
+    #[tactic(auto, unfolding(crate::specs::Values::Wd))]
     pub(crate) fn dielectric_loss(&self, b: u64) -> u64
         requires { b ≡ B self.now.x }
         ensures { result ≡ Wd self.now.x }

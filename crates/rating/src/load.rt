@@ -15,6 +15,7 @@ use stages::rating::{rating, unit_rise};
 const MOST_CURRENT: u64 = 5_000_000;
 
 impl FitCase {
+    #[tactic(auto, unfolding(crate::specs::Stage10::E, crate::specs::Arrangement::alternating))]
     fn unit_rise(&self, l: Losses) -> u64
         requires { Loses (own self.now.case.x) self.now.case.x l }
         ensures { result ≡ E self.now.case.x }

@@ -41,6 +41,7 @@ impl Arrangement for Formation {
         }
     }
 
+    #[tactic(auto, unfolding(crate::specs::OnePoint::one_point))]
     fn losses(&self, fit: &FitCase) -> Losses {
         let x = &fit.case.x;
         Losses {

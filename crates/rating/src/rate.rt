@@ -17,6 +17,7 @@ pub struct Rated {
     pub sheet: [u64; SHEET],
 }
 
+#[tactic(auto, unfolding(crate::specs::Rate::refused))]
 pub fn rate(x: Case) -> Result<Rated, Refusal>
     ensures { answer_of result ≡ rate_of x }
 {

@@ -66,6 +66,7 @@ impl Arrangement for SlType {
         }
     }
 
+    #[tactic(auto, using(crate::proofs::SheathReactance::X_is), unfolding(crate::specs::SlType::sl_type, crate::specs::Values::RA))]
     fn losses(&self, fit: &FitCase) -> Losses {
         let x = &fit.case.x;
         let ra = resistance_of(x[ARMOUR_RESISTANCE], x[ARMOUR_METAL], x[ARMOUR_TEMPERATURE]);

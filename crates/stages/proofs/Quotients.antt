@@ -1,6 +1,7 @@
 -- What `wide`'s quotients require: the divisor is above 0, and the quotient fits, since it is at most a number that does. Stated once
 -- over the rounding. Assumes nothing.
-use Rattle.std.proofs.Common.{◌≡◌, refl, min, suc-ne-zero, ℕ, zero, suc, ◌/◌, ◌%◌, ◌*◌, ◌^◌, ◌≤◌, ◌<◌, le_trans, lt_of_le_of_lt, mul-le-mul, arith, T, leb, ltb, lit<, lit≤}
+use Rattle.std.proofs.Common.{◌≡◌, refl, min, suc-ne-zero, ℕ, zero, suc, ◌/◌, ◌%◌, ◌*◌, ◌^◌, ◌≤◌, ◌<◌, T}
+use Rattle.std.proofs.Common.{le_trans, lt_of_le_of_lt, mul-le-mul, arith, leb, ltb, lit<, lit≤}
 use Rattle.std.specs.Int.{div_ceil}
 use Rattle.exact.specs.Rounding.{up, down}
 use Rattle.exact.specs.Trillion.{trillion}

@@ -1,6 +1,7 @@
 -- Newton's steps for a square root, on any numbers: a step from any r above 0 comes to the root or above, and one from r
 -- above the root comes below r. Assumes nothing.
-use Rattle.std.proofs.Common.{subst, ℕ, ◌+◌, ◌*◌, ◌/◌, ◌≤◌, ◌<◌, mul-le-mul, mul-le-mul_right, lt_of_mul-lt-mul_right, div-mul-le_self, arith}
+use Rattle.std.proofs.Common.{subst, ℕ, ◌+◌, ◌*◌, ◌/◌, ◌≤◌, ◌<◌}
+use Rattle.std.proofs.Common.{mul-le-mul, mul-le-mul_right, lt_of_mul-lt-mul_right, div-mul-le_self, arith}
 use Rattle.std.proofs.Math.Nat.{le_dest, lt-div-mul-add}
 use Rattle.std.proofs.Math.Decide.{dec_le}
 

@@ -1,7 +1,7 @@
 -- What the functions of the stages ask of their arguments, so that every product and quotient fits: one record for all functions that ask
--- the same, in the order of the stages. They speak of numbers, and there is no type for each quantity with its range: a caller has the range
--- from the limits of a case, and would make and open such a value at every call. And the two answers that are handed on with their range.
--- Assumes nothing.
+-- the same, in the order of the stages. They speak of numbers, and there is no type for each quantity with its range: a caller has the
+-- range from the limits of a case, and would make and open such a value at every call. And the two answers that are handed on with their
+-- range. Assumes nothing.
 use Rattle.std.specs.Prelude.{◌≡◌, ℕ, ◌*◌, ◌^◌, ◌≤◌, ◌<◌, ℤ, pos, ◌≤ℤ◌}
 use Rattle.exact.specs.Rounding.{up}
 use Rattle.exact.specs.Trillion.{trillion}

@@ -49,7 +49,9 @@ module _ (h l c : ℕ) (h<c : h < c) (l< : l < 2 ^ 64) (c< : c < 2 ^ 64) where
 
 answer : (c : After-digit-second) →
     let a = c.args in
-    Split (value a.n) a.c (c.digit-first.result.quotient * 4294967296 + c.digit-second.result.quotient) (c.digit-second.result.rest / 2 ^ z a.c)
+    Split (value a.n) a.c
+    (c.digit-first.result.quotient * 4294967296 + c.digit-second.result.quotient)
+    (c.digit-second.result.rest / 2 ^ z a.c)
 unfolding value
 answer c =
     let a = c.args in

@@ -1,4 +1,4 @@
--- `conductor` is the definition: the factors, u, and R, each in its range after refusal 8.
+-- `conduction` is the definition: the factors, u, and R, each in its range after refusal 8.
 use Rattle.std.proofs.Common.{ap, arith, ◌∙◌, ◌≡◌}
 use Rattle.formulas.specs.Skin.{skin_ratio_squared, factor, skin_factor}
 use Rattle.formulas.specs.Proximity.{spacing_ratio, proximity_factor, ac_resistance}

@@ -1,9 +1,7 @@
--- `dielectric_loss_of` is the definition: the logarithm of Di/ds is in its range, since refusal 5 keeps the insulation apart.
+-- The logarithm of Di/ds is in its range, since refusal 5 keeps the insulation apart.
 use Rattle.std.proofs.Common.{arith, ◌∙◌, ◌≡◌}
 use Rattle.formulas.specs.Logarithm.{log_low}
-use Rattle.formulas.specs.Dielectric.{dielectric_loss}
 use Rattle.fields.specs.Fields as Field
-use Rattle.rating.specs.Values.{Wd}
 use Rattle.rating.proofs.Laws.Ranges.{B_range, insulation_log_range}
 use Rattle.rating.proofs.case.SoundCase.dielectric_loss.Goals as goal
 use Rattle.rating.proofs.case.SoundCase.dielectric_loss.Goals.{After-log}
@@ -28,13 +26,3 @@ dielectric_loss-requires c =
       l_least = omega (arith, log_is c, insulation_log_range fine);
       l_most = omega (arith, log_is c, insulation_log_range fine);
     }
-
-pub returns : goal.returns
-unfolding Wd
-returns c =
-    let e = c.from.ensures in
-    let u0 = c.from-2.ensures in
-    let t = c.from-3.ensures in
-    let b = c.requires in
-    let log = log_is (goal.at.returns c).After-log in
-    c.dielectric_loss.ensures ∙ (λ i. dielectric_loss (e i) (u0 i) (t i) (b i) (log i))

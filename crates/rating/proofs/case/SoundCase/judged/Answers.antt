@@ -1,7 +1,6 @@
 -- Refusals 8 and 9 are the tests of the code, and what they leave fits the arrangement.
 use Rattle.std.proofs.Common.{List, Bool, false, ap, arith, eq-eqb, ltb, ltb-false, subst, sym, ℕ, ◌&&◌, ◌||◌, ◌*◌, ◌∙◌, ◌≡◌, ◌≤◌}
 use Rattle.bools.proofs.Laws.Tests.{neither, not_both}
-use Rattle.formulas.specs.Tables.{ks, kp}
 use Rattle.formulas.specs.Skin.{skin_ratio}
 use Rattle.formulas.specs.Refusals.{skin_refused, eddy_refused}
 use Rattle.fields.specs.Fields as Field
@@ -17,13 +16,10 @@ use Rattle.rating.proofs.case.SoundCase.judged.Goals.{After-skin_ratio-zp, After
 fields_passed : (x : List ℕ) → field_refusal x ≡ 0 → rate_of x ≡ judged x
 fields_passed x none_given = rw rate_of_is (simp (eq-eqb _ 0 none_given))
 
-zs_is : (x : List ℕ) {k z : ℕ} → k ≡ ks (Field.conductor x) → z ≡ skin_ratio (Field.frequency x) k (R' x) → z ≡ zs x
-unfolding zs
-zs_is x k_is z_is = z_is ∙ ap (λ k. skin_ratio (Field.frequency x) k (R' x)) k_is
-
-zp_is : (x : List ℕ) {k z : ℕ} → k ≡ kp (Field.conductor x) → z ≡ skin_ratio (Field.frequency x) k (R' x) → z ≡ zp x
-unfolding zp
-zp_is x k_is z_is = z_is ∙ ap (λ k. skin_ratio (Field.frequency x) k (R' x)) k_is
+-- z with k, which is ks or kp
+z_is :
+    (x : List ℕ) {k k' z : ℕ} → k ≡ k' → z ≡ skin_ratio (Field.frequency x) k (R' x) → z ≡ skin_ratio (Field.frequency x) k' (R' x)
+z_is x k_is is = is ∙ ap (λ k. skin_ratio (Field.frequency x) k (R' x)) k_is
 
 -- the two tests of the code are those of the definition
 
@@ -43,9 +39,10 @@ skin :
     (c : After-skin_ratio-zp) →
     skin_refused (zs c.args.self.x) (zp c.args.self.x)
     ≡ ltb 7840000000000 c.skin_ratio-zs.result || ltb 7840000000000 c.skin_ratio-zp.result
+unfolding zs zp
 skin c =
     let x = c.args.self.x in
-    skin_is x (zs_is x c.ks.ensures c.skin_ratio-zs.ensures) (zp_is x c.kp.ensures c.skin_ratio-zp.ensures)
+    skin_is x (z_is x c.ks.ensures c.skin_ratio-zs.ensures) (z_is x c.kp.ensures c.skin_ratio-zp.ensures)
 
 eddy :
     (c : After-sheath_resistance-rs) →
@@ -78,6 +75,7 @@ unfolding judged
 answer x none_given skin eddy = fields_passed x none_given ∙ simp (skin, eddy)
 
 fit : (c : Else-self-rs) → Fit (own c.args.self.x) c.args.self.x
+unfolding zs zp
 fit c =
     let x = c.args.self.x in
     let fine = c.args.self.sound in
@@ -87,8 +85,8 @@ fit c =
       known = fine.known;
       limits = fine.limits;
       geometry = fine.geometry;
-      skin = subst (λ z. z ≤ 7840000000000) (zs_is x c.ks.ensures c.skin_ratio-zs.ensures) (ltb-false _ _ small.0);
-      proximity = subst (λ z. z ≤ 7840000000000) (zp_is x c.kp.ensures c.skin_ratio-zp.ensures) (ltb-false _ _ small.1);
+      skin = subst (λ z. z ≤ 7840000000000) (z_is x c.ks.ensures c.skin_ratio-zs.ensures) (ltb-false _ _ small.0);
+      proximity = subst (λ z. z ≤ 7840000000000) (z_is x c.kp.ensures c.skin_ratio-zp.ensures) (ltb-false _ _ small.1);
       eddies =
           λ tried.
           let apart : 5 * c.reactance-b.result ≤ c.sheath_resistance-rs.result =
@@ -98,12 +96,13 @@ fit c =
     }
 
 pub conduction-h-requires : goal.conduction-h-requires
+unfolding zs zp
 conduction-h-requires c =
     record {
       fit = fit (goal.at.conduction-h-requires c).Else-self-rs;
       rc_is = c.conductor_resistance-rc.ensures;
-      skin_is = zs_is c.args.self.x c.ks.ensures c.skin_ratio-zs.ensures;
-      proximity_is = zp_is c.args.self.x c.kp.ensures c.skin_ratio-zp.ensures;
+      skin_is = z_is c.args.self.x c.ks.ensures c.skin_ratio-zs.ensures;
+      proximity_is = z_is c.args.self.x c.kp.ensures c.skin_ratio-zp.ensures;
     }
 
 pub invariant_of-result : goal.invariant_of-result

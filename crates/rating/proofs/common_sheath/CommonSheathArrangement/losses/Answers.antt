@@ -1,7 +1,5 @@
 -- `losses` is the definition: the cores lie within the sheath.
-use Rattle.std.proofs.Common.{ap, arith, refl, sym, ◌∙◌}
-use Rattle.formulas.specs.CommonSheath.{common_loss}
-use Rattle.rating.specs.Arrangement.{alternating}
+use Rattle.std.proofs.Common.{arith}
 use Rattle.rating.specs.CommonSheath.{common_sheath}
 use Rattle.rating.specs.Laws.Fit.{Fit}
 use Rattle.rating.proofs.Own.{fits}
@@ -27,14 +25,3 @@ common_loss-requires c =
             c_most = omega (arith, axis, diameter, cores.within_sheath);
           };
     }
-
-pub returns : goal.returns
-unfolding common_sheath
-returns c =
-    let p = c.args.fit.now in
-    let b = p.b_is in
-    let rs = p.rs_is in
-    let axis = c.from.ensures in
-    let diameter = c.from-2.ensures in
-    let loss = sym (c.common_loss.ensures ∙ (λ i. common_loss (b i) (rs i) (axis i) (diameter i))) in
-    record { numbers_are = ap (λ s. alternating 3 s 0 p.case.x) loss; ra_is = refl; x_is = refl }

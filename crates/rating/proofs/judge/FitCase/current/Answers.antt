@@ -1,4 +1,4 @@
--- `current_of` is the definition: refusal 10 leaves something of the rise, and E is large enough for the quotient to fit.
+-- `current` is the definition: refusal 10 leaves something of the rise, and E is large enough for the quotient to fit.
 use Rattle.std.proofs.Common.{arith, ◌*◌, ◌-◌, ◌∙◌, ◌≤◌}
 use Rattle.formulas.specs.Dielectric.{permitted_rise, current_rise}
 use Rattle.formulas.specs.Rating.{rating}

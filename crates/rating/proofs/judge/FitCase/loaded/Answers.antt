@@ -1,4 +1,4 @@
--- `load` is the definition: refusals 10 and 11 are its tests, and the sheet is in order.
+-- `loaded` is the definition: refusals 10 and 11 are its tests, and the sheet is in order.
 use Rattle.std.proofs.Common.{[], ap, arith, le-ltb, lt-ltb, ltb, subst, sym, ◌*◌, ◌∙◌, ◌∷◌, ◌≡◌}
 use Rattle.formulas.specs.Refusals.{dielectric_refused, current_refused}
 use Rattle.rating.specs.Values.{rise_of}
@@ -7,7 +7,7 @@ use Rattle.rating.specs.Arrangements.{own}
 use Rattle.rating.specs.Laws.Steps.{Loses}
 use Rattle.rating.proofs.Own.{loses}
 use Rattle.rating.specs.Stage10.{numbers_of}
-use Rattle.rating.specs.Rate.{rated, loaded, sheet_of}
+use Rattle.rating.specs.Rate.{refused, rated, loaded, sheet_of}
 use Rattle.rating.proofs.Laws.Rise.{rise_range}
 use Rattle.rating.proofs.Laws.Arrangement.{InRange}
 use Rattle.rating.proofs.Laws.Stage10.{numbers_in_range}
@@ -51,7 +51,7 @@ overflow_mul-dd c =
     omega (arith, dd_is (goal.at.overflow_mul-dd c).After-dielectric_rise-dd, (numbers_in_range c.args.self.now.fit).dd)
 
 pub returns-then-permitted-dd : goal.returns-then-permitted-dd
-unfolding loaded
+unfolding loaded refused
 returns-then-permitted-dd c =
     sym
     (c.args.self.now.answer
@@ -67,7 +67,7 @@ current-i-requires c =
     }
 
 pub returns-then-i-gt-MOST_CURRENT : goal.returns-then-i-gt-MOST_CURRENT
-unfolding loaded current_refused
+unfolding loaded refused current_refused
 returns-then-i-gt-MOST_CURRENT c =
     let over = ap (ltb 5000000) (sym c.current-i.ensures) ∙ lt-ltb _ _ c.if-i-gt-MOST_CURRENT.true in
     sym

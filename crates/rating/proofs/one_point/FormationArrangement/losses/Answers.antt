@@ -1,9 +1,7 @@
 -- `losses` is the definition: refusal 9 was not given.
-use Rattle.std.proofs.Common.{ap, arith, lit≤, refl, sym, ◌∙◌, ◌≤◌}
+use Rattle.std.proofs.Common.{arith, lit≤, ◌≤◌}
 use Rattle.rating.specs.declared.one_point.Formation.{Formation}
 use Rattle.rating.specs.declared.one_point.Formation.TheVariants.{Trefoil, Flat}
-use Rattle.formulas.specs.Sheath.{eddy_loss}
-use Rattle.rating.specs.Arrangement.{alternating}
 use Rattle.rating.specs.Kind.{j_of}
 use Rattle.rating.specs.OnePoint.{one_point}
 use Rattle.rating.specs.Laws.Fit.{Fit}
@@ -37,15 +35,3 @@ eddy_loss-requires c =
             apart = omega (arith, c.from-2.ensures, c.from.ensures, apart);
           };
     }
-
-pub returns : goal.returns
-unfolding one_point
-returns c =
-    let j = c.j.ensures in
-    let p = c.args.fit.now in
-    let b = p.b_is in
-    let rs = p.rs_is in
-    let d = c.from.ensures in
-    let s = c.from-2.ensures in
-    let loss = sym (c.eddy_loss.ensures ∙ (λ i. eddy_loss (j i) (b i) (rs i) (d i) (s i))) in
-    record { numbers_are = ap (λ s. alternating 1 s 0 p.case.x) loss; ra_is = refl; x_is = refl }

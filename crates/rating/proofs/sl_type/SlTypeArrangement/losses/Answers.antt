@@ -1,9 +1,4 @@
 -- `losses` is the definition.
-use Rattle.std.proofs.Common.{sym, ◌∙◌}
-use Rattle.formulas.specs.Sheath.{sl_loss}
-use Rattle.rating.specs.Arrangement.{alternating}
-use Rattle.rating.specs.SlType.{sl_type}
-use Rattle.rating.specs.Values.{RA}
 use Rattle.rating.proofs.Own.{fits}
 use Rattle.rating.proofs.SheathReactance.{high_takes, X_is}
 use Rattle.rating.proofs.Laws.Ranges.{circulating_ranges}
@@ -25,21 +20,3 @@ sl_loss-requires c =
     let p = c.args.fit.now in
     let x = X_is p.case.x p.b_is c.sheath_reactance-reactance.ensures in
     circulating_ranges p.fit.sound (armoured (fits c.requires p.fit)).apart x p.rs_is
-
-pub armour_loss-requires-clause-ra_is : goal.armour_loss-requires-clause-ra_is
-unfolding RA
-armour_loss-requires-clause-ra_is c = c.resistance_of-ra.ensures
-
-pub returns : goal.returns
-unfolding sl_type RA
-returns c =
-    let p = c.args.fit.now in
-    let x = X_is p.case.x p.b_is c.sheath_reactance-reactance.ensures in
-    let rs = p.rs_is in
-    let s = sym (c.sl_loss.ensures ∙ (λ i. sl_loss (x i) (rs i))) in
-    let w = sym c.armour_loss.ensures in
-    record {
-      numbers_are = λ i. alternating 3 (s i) (w i) p.case.x;
-      ra_is = c.resistance_of-ra.ensures;
-      x_is = x;
-    }

@@ -2,5 +2,5 @@
 use Rattle.std.specs.Prelude.{ℕ, ◌+◌, ◌-◌, ◌*◌}
 
 -- a bound on them: a line takes a byte of the chunk at least, or a read, which gives 65536 bytes at most
-abbrev pub lines_left : ℕ → ℕ → ℕ → ℕ
-lines_left at end reads = reads * 65537 + (end - at)
+abbrev pub most_lines : ℕ → ℕ → ℕ → ℕ
+most_lines at end reads = reads * 65537 + (end - at)

@@ -5,7 +5,7 @@
 
 ghost use Rattle.std.specs.Prelude.{◌≡◌, ◌+◌, ◌<◌, ◌≤◌, take, Some, IfSome, OnSome};
 ghost use Rattle.std.specs.Iterator.{at_most};
-ghost use Rattle.input.specs.State.{lines_left};
+ghost use Rattle.input.specs.State.{most_lines};
 ghost use Rattle.line_in_place.specs.Standing.{standing};
 
 use arrayvec::ArrayVec;
@@ -58,8 +58,8 @@ impl<S: io::Read> Lines<S> {
 
     // The next line.
     pub fn next_line(&mut self) -> Option<Line>
-        ensures { OnSome result (lines_left self.new.at self.new.end self.new.reads
-            < lines_left self.old.at self.old.end self.old.reads) }
+        ensures { OnSome result (most_lines self.new.at self.new.end self.new.reads
+            < most_lines self.old.at self.old.end self.old.reads) }
     {
         let mut line = Line::new();
         for left in (0..self.reads).rev() {
@@ -85,8 +85,8 @@ impl<S: io::Read> Lines<S> {
     // What the next line says. A line that the chunk has to its line feed is read there, and any
     // other is gathered first.
     pub fn next_said(&mut self) -> Option<Said>
-        ensures progress { OnSome result (lines_left self.new.at self.new.end self.new.reads
-            < lines_left self.old.at self.old.end self.old.reads) }
+        ensures progress { OnSome result (most_lines self.new.at self.new.end self.new.reads
+            < most_lines self.old.at self.old.end self.old.reads) }
         ensures value { IfSome (standing (take self.old.end self.old.chunk) self.old.at) (λ here.
             (result ≡ Some here.said) × (self.new.at ≡ here.to + 1) × (self.new.end ≡ self.old.end)
             × (self.new.reads ≡ self.old.reads)) }
@@ -103,7 +103,7 @@ impl<S: io::Read> Lines<S> {
 impl<S: io::Read + Drop> Iterator for Lines<S> {
     type Item = Line;
 
-    ghost remaining = { λ s. at_most (lines_left s.at s.end s.reads) };
+    ghost remaining = { λ s. at_most (most_lines s.at s.end s.reads) };
 
     fn next(&mut self) -> Option<Line> {
         self.next_line()
@@ -117,7 +117,7 @@ pub struct SaidLines<S>(Lines<S>);
 impl<S: io::Read + Drop> Iterator for SaidLines<S> {
     type Item = Said;
 
-    ghost remaining = { λ s. at_most (lines_left s.0.at s.0.end s.0.reads) };
+    ghost remaining = { λ s. at_most (most_lines s.0.at s.0.end s.0.reads) };
 
     fn next(&mut self) -> Option<Said> {
         self.0.next_said()

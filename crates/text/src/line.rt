@@ -1,6 +1,6 @@
 // A line read as a case: whether it is one, and its numbers (docs/FIELDS.md). A line of blanks alone,
 // or that begins with `#`, is passed over, so that a file of cases can have remarks.
-ghost use Rattle.std.specs.Prelude.{◌≡◌, ◌≤◌, length};
+ghost use Rattle.std.specs.Prelude.{◌≡◌, ◌≤◌, length, take};
 ghost use Rattle.text.specs.Line.{fields, read_line, says, text_length};
 ghost use Rattle.fields.specs.Fields.{width};
 ghost use Rattle.text.specs.Laws.Leading.{WordAt};
@@ -82,18 +82,11 @@ fn read_text(s: &[u8]) -> Said
     read_fields(s)
 }
 
-// The length of a line without one carriage return at its end.
-fn text_length(line: &[u8]) -> usize
-    ensures { result ≡ text_length line.now }
+// A line without one carriage return at its end.
+fn text_of(line: &[u8]) -> &[u8]
+    ensures { result.now ≡ take (text_length line.now) line.now }
 {
-    let n = line.len();
-    if n == 0 {
-        return 0;
-    }
-    if line[n - 1] == b'\r' {
-        return n - 1;
-    }
-    n
+    line.strip_suffix(b"\r").unwrap_or(line)
 }
 
 // What a line says, without its line feed. The limit counts the carriage return.
@@ -103,6 +96,5 @@ pub fn read_line(line: &[u8]) -> Said
     if LONGEST < line.len() {
         return Said::Unreadable;
     }
-    let n = text_length(line);
-    read_text(&line[..n])
+    read_text(text_of(line))
 }

@@ -2,11 +2,11 @@
 -- line has a byte.
 -- Assumes nothing.
 use Rattle.std.proofs.Common.{length, ◌<◌, ◌≡◌, ◌≤◌}
-use Rattle.input.specs.State.{lines_left}
+use Rattle.input.specs.State.{most_lines}
 use Rattle.input.proofs.Lines.next_line.Given as goal
 
 abbrev pub invariant-loop-left : goal.invariant-loop-left
 invariant-loop-left g l =
-    let now = lines_left l.self.at l.self.end l.self.reads in
-    let before = lines_left l.initial.self.at l.initial.self.end l.initial.self.reads in
+    let now = most_lines l.self.at l.self.end l.self.reads in
+    let before = most_lines l.initial.self.at l.initial.self.end l.initial.self.reads in
     (l.self.reads ≡ l.left) × (now ≤ before) × (0 < length l.line.items → now < before)

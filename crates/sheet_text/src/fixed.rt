@@ -34,7 +34,8 @@ pub fn put_signed<const N: usize>(out: &mut ArrayString<N>, x: i64, decimals: u3
     requires few_decimals { decimals ≤ 16 }
     ensures { out.new.bytes ≡ out.old.bytes ++ signed decimals x }
 {
-    if x < 0 {
+    let below_zero = x < 0;
+    if below_zero {
         out.push('-');
     }
     put_fixed(out, x.unsigned_abs(), decimals);

@@ -1,4 +1,5 @@
-// A refusal's number, its word and its rule (docs/RATING.md), so that a person sees what to change.
+// A refusal by its number, its word and its rule (docs/RATING.md), so that a person sees what to
+// change.
 use arrayvec::ArrayString;
 use rating::refusal::Refusal;
 use std::fmt::{self, Write};
@@ -28,7 +29,8 @@ fn rule_of(refusal: Refusal) -> &'static str {
         Refusal::Stray =>
             "Only arrangement 5 has armour: in the others armour, RA0, theta_A and dA must be 0, and in 1 to 4 also c.",
         Refusal::Geometry =>
-            "It must be that dc <= ds, 1.05 ds <= Di and Di <= d; also d <= s in arrangements 1 to 5, 2 c <= dA in 5, dc <= s and 2 c <= d in 6.",
+            "It must be that dc <= ds, 1.05 ds <= Di and Di <= d; also d <= s in arrangements 1 to 5, \
+             2 c <= dA in 5, dc <= s and 2 c <= d in 6.",
         Refusal::Heat =>
             "The conductor must be 5 K or more above the ambient, and neither sheath nor armour above it.",
         Refusal::Metal =>

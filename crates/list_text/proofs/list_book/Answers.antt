@@ -1,6 +1,7 @@
 -- `list_text::list_book` meets its contract: the first line and the records, or the refusal. The count of a book within 65536 bytes
 -- leaves room for its lines. Assumes nothing.
-use Rattle.std.proofs.Common.{append_assoc, ap, arith, eqb, false, length, length-append, refl, rules, subst, sym, List, Ok, Err, ℕ, ◌++◌, ◌+◌, ◌∙◌, ◌≡◌, ◌≤◌}
+use Rattle.std.proofs.Common.{append_assoc, ap, arith, eqb, false, length, length-append, refl, rules, subst, sym, List, Ok, Err, ℕ}
+use Rattle.std.proofs.Common.{◌++◌, ◌+◌, ◌∙◌, ◌≡◌, ◌≤◌}
 use Rattle.book.specs.declared.accept.Accepted.{Accepted}
 use Rattle.book.specs.Answers.{acceptance_of}
 use Rattle.book_bytes.specs.declared.refusal.Refusal.{Refusal}
@@ -56,7 +57,9 @@ returns-in-Ok g c =
     ∙ ap (λ (t : List ℕ). text ++ t) (of_book _ _ a c.in-Ok.ensures)
     in
     let within = (counted _ _ c.in-Ok.ensures).within in
-    record { value = listed; upper_bound = grown text _ listed (omega (arith, within, c.put_records.ensures.within, c.put_line.ensures.within)) }
+    let fits : length c.put_records.new.out.bytes ≤ length text + 65536 =
+    omega (arith, within, c.put_records.ensures.within, c.put_line.ensures.within) in
+    record { value = listed; upper_bound = grown text _ listed fits }
 
 pub returns-in-Err : goal.returns-in-Err
 returns-in-Err g c =

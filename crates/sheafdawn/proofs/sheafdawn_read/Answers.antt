@@ -1,6 +1,6 @@
 -- `sheafdawn::sheafdawn_read` meets its contract: the case, the answer and the rating fill a slice of 28. Assumes nothing.
-use Rattle.std.proofs.Common.{List, [], ap, ap₂, arith, drop, eq-eqb, length}
-use Rattle.std.proofs.Common.{length-drop, length-take-le, ne_eqb, refl, replicate, set, sym, take, ℕ}
+use Rattle.std.proofs.Common.{List, [], ap, ap₂, arith, drop, eq-eqb, length, length-drop, length-take-le, ne_eqb, refl, replicate, set}
+use Rattle.std.proofs.Common.{sym, take, ℕ}
 use Rattle.std.proofs.Common.{◌++◌, ◌∙◌, ◌∷◌, ◌≡◌}
 use Rattle.std.proofs.lemmas.List.{set-append_right}
 use Rattle.book_laws.specs.Book.{read_of}

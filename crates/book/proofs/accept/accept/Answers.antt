@@ -62,8 +62,8 @@ module _ (b : List ℕ) (used : ℕ) {d : Code.Description} {rs : List (List ℕ
   accepted : position differs rs ≡ None → record { number = 0; count = d.count; note = d.first; named = 0 } ≡ accept_of b used
   unfolding accept_in accept_after
   accepted none =
-      let differs_none = λ (k : ℕ) (h : k < d.count). none_differs differs rs none k (omega (arith, stored.count_is)) in
-      let all = all_agree_all rbk1 b d.first d.count (λ k h. agreed k h (differs_none k h)) in
+      let same = none_differs differs rs none in
+      let all = all_agree_all rbk1 b d.first d.count (λ k h. agreed k h (same k (omega (arith, stored.count_is)))) in
       sym (goes_on b used is _ _ ∙ simp all)
 
 pub returns-in_err-book : goal.returns-in_err-book

@@ -1,6 +1,6 @@
 -- `book_bytes::record::records` meets its contract: the part of the buffer that the records fill is cut into them. Assumes nothing.
-use Rattle.std.proofs.Common.{List, [], ap, ap₂, arith, drop, get_or, length, length-drop, length-take-le, refl}
-use Rattle.std.proofs.Common.{suc, take, zero, ℕ, ◌*◌, ◌+◌, ◌-◌, ◌/◌, ◌<◌, ◌∙◌, ◌≡◌, ◌≤◌}
+use Rattle.std.proofs.Common.{List, [], ap, ap₂, arith, drop, get_or, length, length-drop, length-take-le, refl, suc, take, zero, ℕ, ◌*◌}
+use Rattle.std.proofs.Common.{◌+◌, ◌-◌, ◌/◌, ◌<◌, ◌∙◌, ◌≡◌, ◌≤◌}
 use Rattle.std.proofs.lemmas.List.{drop-drop, drop-take, take-take}
 use Rattle.std.specs.Simd.{first_chunks}
 use Rattle.book_laws.specs.Layout.{rbk1, record_length}
@@ -44,8 +44,8 @@ cut :
 cut b first count {rs} room is =
     let part = take (first + record_length rbk1 * count - first) (drop first b) in
     let taken : first + record_length rbk1 * count - first ≡ record_length rbk1 * count = omega arith in
-    let whole = length-take-le (first + record_length rbk1 * count - first) (drop first b) (omega (arith, length-drop first b)) in
-    let size : length part ≡ record_length rbk1 * count = omega (arith, whole) in
+    let reach : first + record_length rbk1 * count - first ≤ length (drop first b) = omega (arith, length-drop first b) in
+    let size : length part ≡ record_length rbk1 * count = omega (arith, length-take-le _ (drop first b) reach) in
     let many : length part / record_length rbk1 ≡ count = omega (arith, size) in
     let all : rs ≡ first_chunks (record_length rbk1) count (take (record_length rbk1 * count) (drop first b)) =
     is ∙ ap₂ (λ (k n : ℕ). first_chunks (record_length rbk1) k (take n (drop first b))) many taken

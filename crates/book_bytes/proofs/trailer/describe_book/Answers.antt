@@ -1,8 +1,8 @@
 -- `book_bytes::trailer::describe_book` meets its contract: 20 and 21 for too few bytes, 21 for another mark, 22 for another field, and else
 -- what the trailer says. Assumes nothing.
 use Rattle.std.specs.List.{slice_range, starts_with}
-use Rattle.std.proofs.Common.{List, add-zero, ap, arith, drop, eqb, false, inl, inr, length, length-drop}
-use Rattle.std.proofs.Common.{le-ltb, lt-ltb, sym, true, ℕ, ◌+◌, ◌-◌, ◌<◌, ◌∙◌, ◌≡◌, ◌≤◌, ◌⊎◌}
+use Rattle.std.proofs.Common.{List, add-zero, ap, arith, drop, eqb, false, inl, inr, length, length-drop, le-ltb, lt-ltb, sym, true, ℕ}
+use Rattle.std.proofs.Common.{◌+◌, ◌-◌, ◌<◌, ◌∙◌, ◌≡◌, ◌≤◌, ◌⊎◌}
 use Rattle.book_laws.specs.Book.{describe}
 use Rattle.book_laws.specs.Bytes.{stands, word_at}
 use Rattle.book_laws.specs.Layout.{rbk1, trailer_length}

@@ -15,7 +15,7 @@ use Rattle.book_laws.proofs.Laws.Margin as Margin
 use Rattle.demands.specs.Demands.{Demand1, Demand2, Demand3}
 
 pub demand_1 : Demand1
-unfolding unwritten unread unaccepted
+unfolding refused unwritten unread unaccepted
 demand_1 =
     record {
       case = by_refusals;

@@ -76,8 +76,7 @@ impl TryFrom<u32> for Kind {
     }
 }
 
-// Matched here, and no type parameter of the steps: a version with a caller of the steps for each kind took 467 ns where `rate` had taken
-// 443.
+// The two matches stay: with a call of the steps in an arm for each kind, `rate` took 467 ns where it had taken 443.
 impl Arrangement for Kind {
     ghost adds = { arrangement_as };
 

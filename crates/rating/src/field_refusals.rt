@@ -19,8 +19,7 @@ use fields::{
 };
 use stages::resistance::signed;
 
-// A field from low to high, the ends included. The library's test has a function of its own, so that at each call its answer is the
-// definition's.
+// A field from low to high, the ends included. A function of its own: with the library's test in its place no group of limits is proved.
 pub(crate) fn within(low: u32, high: u32, n: u32) -> bool
     ensures { result ≡ Within.within low high n }
 {

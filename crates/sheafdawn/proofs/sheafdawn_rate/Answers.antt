@@ -4,7 +4,7 @@ use Rattle.std.proofs.Common.{◌++◌, ◌-◌, ◌∙◌, ◌∷◌, ◌≡◌
 use Rattle.std.proofs.Math.Seq.{drop-length}
 use borrow.Rule.Slice.PartMut.{put_mid}
 use Rattle.fields.specs.Fields.{width}
-use Rattle.rating.specs.Rate.{Answer, rate_of, refused}
+use Rattle.rating.specs.Rate.{Answer, rate_of}
 use Rattle.sheafdawn.specs.Calls.{call, called, rate_call}
 use Rattle.sheafdawn.proofs.sheafdawn_rate.Goals as goal
 
@@ -43,7 +43,6 @@ returns-in-Ok c =
     ∙ ap (λ (n : ℕ). n ∷ c.in-Ok.rated.sheet) c.from.ensures)
 
 pub returns-in-Err : goal.returns-in-Err
-unfolding refused
 returns-in-Err c =
     let whole = c.in-Some.ensures.cases in
     told _ c.args.out.now whole.long c.if-out-ne14.false (c.in-Err.ensures ∙ ap rate_of whole.same) c.from-in-Err.ensures

@@ -14,7 +14,8 @@ use rating::rate::rate;
 // The bytes of a record.
 pub type Stored = [u8; RECORD_LENGTH];
 
-// The answer is 0 for a rated case, and otherwise the refusal's number.
+// The answer is 0 for a rated case, and otherwise the refusal's number. It is a word, since a record is
+// read as it is written, whatever stands there.
 #[derive(Clone, Copy)]
 pub struct Record {
     pub case: Case,

@@ -1,5 +1,6 @@
 // A line read where it stands in a chunk, without a copy of it. What is read is what
-// `text::line::read_line` says of the line; the usual line has a shorter way there (`plain`).
+// `text::line::read_line` says of the line; the usual line has a shorter way there (`plain`). Each step
+// takes the chunk and a place in it, and no part of the chunk, since the line's end is such a place.
 #![tactic(auto)]
 
 mod number;

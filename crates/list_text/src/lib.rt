@@ -50,8 +50,8 @@ fn put_records<const N: usize>(out: &mut ArrayString<N>, book: &[u8], first: usi
         put_numbers(
             out,
             i as u64 + 1,
-            record.answer as u64,
-            record.rating as u64,
+            u64::from(record.answer),
+            u64::from(record.rating),
         );
     }
 }

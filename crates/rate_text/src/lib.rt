@@ -41,8 +41,8 @@ fn put_numbers<const N: usize>(
         ++ text_of (record { number = number; rating = rating; sheet = sheet }) }
     ensures within { array_string_len out.new ≤ array_string_len out.old + answer_room }
 {
-    put_decimal(out, number as u64);
-    put_number(out, rating as u64);
+    put_decimal(out, u64::from(number));
+    put_number(out, u64::from(rating));
     put_sheet(out, sheet);
     out.push('\n');
 }

@@ -17,12 +17,12 @@ fn temperature_factor(alpha: u32, theta: u32) -> u64
     requires { FactorRanges alpha (to_z w32 theta) }
     ensures { IsFactor alpha (to_z w32 theta) result }
 {
-    (10000000 + alpha as i64 * (signed(theta) - 2000)) as u64
+    (10000000 + i64::from(alpha) * (signed(theta) - 2000)) as u64
 }
 
 pub fn resistance(field: u32, alpha: u32, theta: u32) -> u64
     requires { ResistanceRanges field alpha (to_z w32 theta) }
     ensures { result ≡ resistance field alpha (to_z w32 theta) }
 {
-    field as u64 * temperature_factor(alpha, theta)
+    u64::from(field) * temperature_factor(alpha, theta)
 }

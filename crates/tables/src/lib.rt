@@ -49,14 +49,14 @@ pub fn ks(code: u32) -> u32
     requires { In 1 most_conductor_code code }
     ensures { result ≡ Tables.ks code }
 {
-    factors_of(code).ks as u32
+    u32::from(factors_of(code).ks)
 }
 
 pub fn kp(code: u32) -> u32
     requires { In 1 most_conductor_code code }
     ensures { result ≡ Tables.kp code }
 {
-    factors_of(code).kp as u32
+    u32::from(factors_of(code).kp)
 }
 
 fn all_coefficients() -> [u32; 6]

@@ -1,5 +1,6 @@
 // Where a run of blanks or a word ends. The numbers of a line are words, and any run of blanks and
-// tabs stands between two of them.
+// tabs stands between two of them. A place is an index of the line, and not a part of it, since the
+// next step goes on from there and a word lies between two.
 ghost use Rattle.std.specs.Prelude.{Bool, true, ◌≡◌, ℕ, drop};
 ghost use Rattle.text.specs.Words.{Decides, is_blank, is_ink, run, run_end};
 

@@ -4,7 +4,6 @@ use Rattle.std.proofs.Common.{Fits, SFits, T, ap, ap₂, arith, le_trans, mul-le
 use Rattle.std.proofs.Common.{w64, ℕ, ℤ, ◌*ℤ◌, ◌*◌, ◌+ℤ◌, ◌-ℤ◌, ◌∙◌, ◌≡◌, ◌≤◌}
 use Rattle.std.proofs.Math.Path.{subst⁻¹}
 use Rattle.std.specs.Int.Signed.{mag, non_neg}
-use Rattle.std.proofs.lemmas.Int.{to_z_pos}
 use mir.ValLaws.{to_z-Fits}
 use Rattle.formulas.specs.Resistance.{temperature_factor}
 use Rattle.formulas.proofs.Laws.Temperature.{FactorRange, temperature_factor_range}
@@ -20,13 +19,17 @@ factor_fits range = fits_as (record { same = range.sign; fits = record { sfits =
 unsigned : {z : ℤ} → FactorRange z → T (non_neg z) × Fits w64 (nat_abs z)
 unsigned range = (subst⁻¹ (λ z. T (non_neg z)) range.sign tt, record { fits = omega arith })
 
--- a coefficient α and a temperature θ in range, where `signed` answers r
-record Within (α : ℕ) (θ r : ℤ) : Type 0 where
+-- a coefficient α, widened to a, and a temperature θ in range, where `signed` answers r
+record Within (α : ℕ) (a θ r : ℤ) : Type 0 where
+  widened : a ≡ pos α
   same : r ≡ θ
   word : SFits w32 θ
   ranges : FactorRanges α θ
 
-module _ {α : ℕ} {θ r : ℤ} (w : Within α θ r) where
+module _ {α : ℕ} {a θ r : ℤ} (w : Within α a θ r) where
+  coefficient : Is a (pos α)
+  coefficient = record { same = w.widened; fits = record { sfits = omega (arith, w.ranges.α_most) } }
+
   temperature : Is r θ
   temperature = record { same = w.same; fits = record { sfits = omega arith } }
 
@@ -43,30 +46,31 @@ module _ {α : ℕ} {θ r : ℤ} (w : Within α θ r) where
   product_most : mag (pos α *ℤ (θ -ℤ pos 2000)) ≤ most_coefficient * 2147485648
   product_most = le_trans (mag_times α (θ -ℤ pos 2000)) (mul-le-mul w.ranges.α_most (suc-le-suc difference_most))
 
-  product : Is (to_z w64 α *ℤ read (read r -ℤ pos 2000)) (pos α *ℤ (θ -ℤ pos 2000))
+  product : Is (read a *ℤ read (read r -ℤ pos 2000)) (pos α *ℤ (θ -ℤ pos 2000))
   product =
       record {
-        same = ap₂ (λ x y. x *ℤ y) (to_z_pos w64 α (omega arith)) (read_as difference);
+        same = ap₂ (λ x y. x *ℤ y) (read_as coefficient) (read_as difference);
         fits = record { sfits = omega (arith, product_most) };
       }
 
   range : FactorRange (temperature_factor α θ)
   range = temperature_factor_range α θ w.ranges.α_most w.ranges.θ_least w.ranges.θ_most
 
-  factor : Is (pos 10000000 +ℤ read (to_z w64 α *ℤ read (read r -ℤ pos 2000))) (temperature_factor α θ)
+  factor : Is (pos 10000000 +ℤ read (read a *ℤ read (read r -ℤ pos 2000))) (temperature_factor α θ)
   unfolding temperature_factor
   factor = record { same = ap (λ x. pos 10000000 +ℤ x) (read_as product); fits = factor_fits range }
 
-within : (c : After-signed) → Within c.args.alpha (to_z w32 c.args.theta) c.signed.result
+within : (c : After-signed) → Within c.args.alpha c.from.result (to_z w32 c.args.theta) c.signed.result
 within c =
     record {
+      widened = c.from.ensures;
       same = c.signed.ensures;
       word = to_z-Fits w32 c.args.theta (record { fits = omega arith });
       ranges = c.requires;
     }
 
-pub overflow_cast-result-2 : goal.overflow_cast-result-2
-overflow_cast-result-2 c = subst⁻¹ (λ z. T (non_neg z) × Fits w64 (nat_abs z)) (read_as (factor (within c))) (unsigned (range (within c)))
+pub overflow_cast-result : goal.overflow_cast-result
+overflow_cast-result c = subst⁻¹ (λ z. T (non_neg z) × Fits w64 (nat_abs z)) (read_as (factor (within c))) (unsigned (range (within c)))
 
 pub returns : goal.returns
 returns c = let answer = read_as (factor (within c)) in

@@ -12,9 +12,10 @@ use text::gather::keep;
 use text::line::Said;
 
 // Adds a word to a note of `len` bytes at the front of the buffer, after a blank unless it is the
-// first, which the length does not tell where that word is empty, and answers the new length. Of a note longer than the buffer as much is kept as fits, for
-// which `start` has then no room. The length stands beside the buffer, since the note is the front
-// of the book's own bytes, and the book comes after it there.
+// first, which the length does not tell where that word is empty; and answers the new length. Of a
+// note longer than the buffer as much is kept as fits, for which `start` has then no room. The length
+// stands beside the buffer, since the note is the front of the book's own bytes, and the book comes
+// after it there.
 pub fn add_word(buffer: &mut [u8], len: usize, first: bool, word: &[u8]) -> usize
     ensures { Put buffer.old len (take (length buffer.old - len) (next_word first word.now))
         buffer.new result }

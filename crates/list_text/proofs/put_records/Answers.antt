@@ -39,7 +39,9 @@ loop-i-preserved g c =
     let i = c.loop-i.i in
     let said = c.of_bytes-record.ensures in
     let stored = c.records-stored-items.ensures in
-    let line = line_is a.book.now a.first a.count i stored (omega (arith, stored.count_is)) said.answer said.rating in (
+    let answer = c.from.ensures ∙ said.answer in
+    let rating = c.from-in-loop-i.ensures ∙ said.rating in
+    let line = line_is a.book.now a.first a.count i stored (omega (arith, stored.count_is)) answer rating in (
       c.put_numbers.ensures.text
           ∙ ap₂ ◌++◌ c.loop-i.invariant.0 line
           ∙ append_assoc a.out.now.bytes _ _

@@ -5,7 +5,8 @@
 // How many inputs a case has.
 pub const WIDTH: usize = 26;
 
-// The inputs of a case.
+// The inputs of a case. An array with names for its places, and not a struct: C and a book have the words in this order, and a struct
+// would be copied field by field.
 pub type Case = [u32; WIDTH];
 
 pub const ARRANGEMENT: usize = 0;

@@ -18,6 +18,7 @@ pub enum Refusal {
     Current,
 }
 
+// By a match, as `number_of` is, and as a book's refusals are, one of which has a field and so no discriminant.
 impl From<Refusal> for u32 {
     ghost from_gives = { λ refusal n. n ≡ number_of refusal };
 

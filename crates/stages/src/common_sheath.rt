@@ -35,7 +35,8 @@ pub fn axis_ratio(c: u64, d: u64) -> u64
     mul_div::<Up>(4 * (c * c), T, d * d)
 }
 
-// A term of the first formula: `part` over 1 + k/T.
+// A term of the first formula: `part` over 1 + k/T. Stages 7 and 8 have such quotients too; each is one call, and a shared name would be
+// no plainer.
 fn term(part: u64, k: u64) -> u64
     requires { TermRanges part k }
     ensures { result ≡ up (part * tera) (tera + k) }

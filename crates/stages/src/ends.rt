@@ -1,6 +1,6 @@
 // The two ends of pi, of a logarithm and of what the stages make of them (docs/RATING.md, 'Notation' and stages 2, 5 and 6): the
 // lower end rounds every quotient down, the upper one up. So an end is a rounding with the constants of its side, and a stage
-// that has two ends is one function with a parameter `R: End`.
+// that has two ends is one function with a parameter `R: End`. A clause cannot name a trait's const, so each has a ghost member beside it.
 ghost use Rattle.std.specs.Prelude.{ℕ, ◌*◌, ◌≤◌, ◌<◌};
 ghost use Rattle.formulas.specs.Logarithm.{log_low, log_high};
 ghost use Rattle.formulas.specs.Reactance.{reactance, reactance_low};

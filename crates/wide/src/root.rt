@@ -6,8 +6,8 @@ ghost use Rattle.exact.specs.Root.{IsRoot};
 ghost use Rattle.wide.specs.Laws.Ranges.{GuessRange, RootOrAbove};
 
 // The curve of the roots from i/32 to (i + 1)/32, as 24, 20 and 20 bits: where it starts, how far it rises, and four times
-// how far it bulges above a straight line, in units of 2^-24. By cases, of which the compiler makes a table; an array would
-// be copied in each call.
+// how far it bulges above a straight line, in units of 2^-24. By cases, of which the compiler makes a table: so no index
+// is to be shown in range.
 fn piece(i: u64) -> u64 {
     match i {
         8 => 9223404456206416508,

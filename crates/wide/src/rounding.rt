@@ -51,7 +51,7 @@ impl Rounding for Up {
     }
 }
 
-// n/c where both are one limb.
+// n/c where both are one limb. That c is not 0 stays a clause: a NonZero divisor would have to be made at each call.
 pub fn rounded<R: Rounding>(n: u64, c: u64) -> u64
     requires { 0 < c }
     ensures { result ≡ R.round n c }

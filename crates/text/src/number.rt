@@ -23,11 +23,10 @@ fn read_digits(w: &[u8], limit: u32) -> Option<u32>
         if !b.is_ascii_digit() {
             return None;
         }
-        let next = u64::from(value) * 10 + u64::from(*b - b'0');
-        if u64::from(limit) < next {
+        value = value.checked_mul(10)?.checked_add(u32::from(*b - b'0'))?;
+        if limit < value {
             return None;
         }
-        value = next as u32;
     }
     Some(value)
 }
@@ -42,7 +41,8 @@ pub fn read_number(w: &[u8]) -> Option<u32>
     }
 }
 
-// Where digits end, and their value.
+// Where digits end, and their value. Leading, Number, Word and Line stay types of their own: their
+// fields' names say what is at the place, and no function is for all of them.
 #[derive(Clone, Copy)]
 pub struct Leading {
     pub to: usize,

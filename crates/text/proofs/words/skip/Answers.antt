@@ -1,6 +1,7 @@
 -- `text::words::skip` meets its contract: the first byte that does not pass ends the run.
 -- Assumes nothing.
-use Rattle.std.proofs.Common.{Bool, List, arith, ap, cond, drop, false, length, length-drop, ltb-false, not, refl, suc, sym, true, ℕ, take_all, rules, tests}
+use Rattle.std.proofs.Common.{Bool, List, arith, ap, cond, drop, false, length, length-drop}
+use Rattle.std.proofs.Common.{ltb-false, not, refl, suc, sym, true, ℕ, take_all, rules, tests}
 use Rattle.std.proofs.Common.{Option, Some, None, nat_lt, ◌+◌, ◌∙◌, ◌≡◌, ◌≤◌}
 use Rattle.std.specs.Option.{unwrap_or}
 use Rattle.std.specs.List.{position, position_or_len}

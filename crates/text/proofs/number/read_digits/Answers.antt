@@ -31,7 +31,8 @@ returns-in_err-checked_mul c =
 
 pub returns-in_err-value : goal.returns-in_err-value
 returns-in_err-value c =
-    let past = onward_over _ _ _ (omega (arith, c.ranges.limit.fits, c.in_err-value.ensures, c.in_ok-checked_mul.ensures, c.from.ensures)) in
+    let wide = c.in_err-value.ensures in
+    let past = onward_over _ _ _ (omega (arith, c.ranges.limit.fits, wide, c.in_ok-checked_mul.ensures, c.from.ensures)) in
     c.from_residual-in_err-value.ensures ∙ sym (turn (goal.at.returns-in_err-value c).After-checked_mul _ refl ∙ past)
 
 -- a digit was read, and the value after it fits

@@ -2,7 +2,8 @@
 use text::number::read_number;
 use text::words::is_blank;
 
-// The number that a word of a range says. What is no number is 0, so that the range holds little.
+// The number that a word of a range says. What is no number is 0, so that the range holds little. 0
+// and no Option, since another answer would change what is counted.
 fn number_of(word: Option<&[u8]>) -> u32 {
     word.and_then(read_number).unwrap_or(0)
 }

@@ -1,9 +1,6 @@
-// Evidence from outside the proofs: cases with what they must get, from standard input, and what
-// was compared. A case's line is followed by a line that says what the program `rate` must print
-// for it, or by `r LOW HIGH`: its rating lies between these, ends included (mA). Empty lines and
-// lines that begin with `#` are passed over where a case may stand. A line that says what a case
-// must get is compared byte by byte, so lines are read by their bytes here, and not by what they
-// say.
+// Evidence from outside the proofs: cases with what they must get, from standard input, and how many
+// were compared. Lines are read by their bytes here, and not by what they say, since a line that says
+// what a case must get is compared byte by byte.
 #![tactic(auto)]
 
 mod count;
@@ -33,7 +30,8 @@ struct Tally {
     ranges: Count,
 }
 
-// The rating of the case that a line says: 0 where it says none, or one that is refused.
+// The rating of the case that a line says, and 0 where it says none or one that is refused. 0 and no
+// Option: that is the rating which rate prints for a refused case.
 fn rating_of(line: &[u8]) -> u32 {
     match read_line(line) {
         Said::Case(x) => rate(x).map_or(0, |rated| rated.rating),
@@ -41,7 +39,7 @@ fn rating_of(line: &[u8]) -> u32 {
     }
 }
 
-// The case that a line has, unless it is passed over.
+// The case that a line has. Empty lines and lines that begin with `#` are passed over.
 fn case_on(number: u64, line: &[u8]) -> Option<Waiting> {
     let mut printed = ArrayString::<ROOM>::new();
     print_line(&mut printed, number, line);
@@ -55,7 +53,8 @@ fn case_on(number: u64, line: &[u8]) -> Option<Waiting> {
 }
 
 impl Tally {
-    // A case is compared with what a line says that it must get.
+    // A case is compared with what a line says that it must get: what the program `rate` must print for
+    // it, or by `r LOW HIGH` that its rating lies between these, ends included (mA).
     fn compare(&mut self, case: &Waiting, line: &[u8]) {
         match line.strip_prefix(b"r") {
             Some(range) => self.ranges.add(is_within(range, case.rating)),

@@ -22,7 +22,8 @@ pub type Line = ArrayVec<u8, ROOM>;
 const CHUNK: usize = 65536;
 
 // The lines of a stream: the chunk's bytes from `at` to `end` are still to come, and so many reads
-// are left. A line feed ends a line, or the end of the input after at least one byte.
+// are left. A line feed ends a line, or the end of the input after at least one byte. It has a chunk
+// of its own since std's BufReader allocates.
 #[derive(Drop)]
 pub struct Lines<S> {
     source: S,

@@ -1,7 +1,6 @@
 // Reads cases from standard input, one to a line as `rate` does, and writes a book of them to
-// standard output, with the program's arguments, joined by blanks, as its note. Where a line cannot
-// be read, or the book would pass 65536 bytes, standard error says so and no book is written. What
-// is done to the book's bytes is `keep_book`; here are the buffers, the reading and the writing.
+// standard output. What is done to the book's bytes is `keep_book`; here are the buffers, the
+// reading and the writing.
 #![tactic(auto)]
 
 ghost use Rattle.std.specs.Prelude.{◌≤◌, length, IfSome};
@@ -26,10 +25,11 @@ fn argument<E: Env>(env: &E, i: usize, word: &mut [u8]) -> Option<usize>
     }
 }
 
-// The arguments joined by blanks at the front of the book, and their length.
+// The arguments joined by blanks at the front of the book, as its note, and their length.
 fn put_note<E: Env>(env: &E, book: &mut [u8]) -> usize {
     let mut word = [0u8; 65536];
     let mut len: usize = 0;
+    // By index: std's args allocates.
     for i in 1..usize::MAX {
         let Some(n) = argument(env, i, &mut word) else {
             break;
@@ -57,6 +57,7 @@ fn keep_lines<S: Read + Drop, W: Write>(
     begun: usize,
 ) -> Option<usize> {
     let mut used = begun;
+    // A flag beside the length: after an unreadable line reading goes on with the book as it is.
     let mut whole = true;
     for (number, said) in (1..=u64::MAX).zip(lines) {
         match keep_said(book, used, said) {
@@ -74,6 +75,8 @@ fn keep_lines<S: Read + Drop, W: Write>(
     whole.then_some(used)
 }
 
+// Where a line cannot be read, or the book would pass 65536 bytes, standard error says so and no book
+// is written.
 fn main(rt: HostRuntime) {
     let mut errors = rt.stderr();
     let mut book = [0u8; 65536];

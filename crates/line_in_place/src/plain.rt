@@ -39,12 +39,12 @@ pub(crate) fn plain_line(s: &[u8], from: usize) -> Option<Line>
     }
     let mut fields = [0u32; WIDTH];
     let mut at = from;
-    for i in 0..WIDTH - 1 {
+    for field in &mut fields[..WIDTH - 1] {
         let number = number_at(s, at)?;
         if !is_blank(s[number.to]) {
             return None;
         }
-        fields[i] = number.value;
+        *field = number.value;
         at = number.to + 1;
     }
     let last = number_at(s, at)?;

@@ -25,7 +25,8 @@ pub fn line_feed(chunk: &[u8], from: usize) -> usize
 
 // Appends the chunk's bytes from `from` to `to` to the `len` bytes that the line has, as many as
 // there is room for, and answers the new length. The length stands beside the buffer here, since
-// what is gathered so is a book's note, at the front of the book's own bytes (memory is fixed).
+// what is gathered so is a book's note, at the front of the book's own bytes (memory is fixed). The
+// part is named by its places, which may lie past the chunk's end: so the function was promised.
 pub fn keep(line: &mut [u8], len: usize, chunk: &[u8], from: usize, to: usize) -> usize
     ensures { Put line.old len (kept (length line.old - len) from to chunk.now)
         line.new result }

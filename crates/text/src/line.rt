@@ -12,8 +12,9 @@ use fields::{Case, WIDTH};
 // The most bytes of a line that is read, without its line feed.
 pub const LONGEST: usize = 1023;
 
-// What a line says: nothing, a case, or that it cannot be read.
-#[derive(Clone, Copy)]
+// What a line says: nothing, a case, or that it cannot be read. Not a Result of an Option: an
+// unreadable line is an answer like the others, and no step passes it on.
+#[derive(Clone, Copy, Debug, PartialEq, Eq)]
 pub enum Said {
     PassedOver,
     Case(Case),

@@ -23,11 +23,10 @@ fn read_digits(w: &[u8], limit: u32) -> Option<u32>
         if !b.is_ascii_digit() {
             return None;
         }
-        let next = u64::from(value) * 10 + u64::from(*b - b'0');
-        if u64::from(limit) < next {
+        value = value.checked_mul(10)?.checked_add(u32::from(*b - b'0'))?;
+        if limit < value {
             return None;
         }
-        value = next as u32;
     }
     Some(value)
 }
@@ -42,16 +41,18 @@ pub fn read_number(w: &[u8]) -> Option<u32>
     }
 }
 
-// Where digits end, and their value.
+// Where digits end, and their value. Leading, Number, Word and Line stay types of their own: their
+// fields' names say what is at the place, and no function is for all of them.
 #[derive(Clone, Copy)]
-struct Leading {
-    to: usize,
-    value: u64,
+pub struct Leading {
+    pub to: usize,
+    pub value: u64,
 }
 
 // The digits from `from` on, at most ten, as many as a number of 32 bits has: these fit 64 bits, so
-// that no limit is tried on the way, and the compiler writes the loop out.
-fn leading_digits(s: &[u8], from: usize) -> Leading
+// that no limit is tried on the way, and the compiler writes the loop out. By index, since where the
+// digits end is one.
+pub fn leading_digits(s: &[u8], from: usize) -> Leading
     requires { from + 10 ≤ length s.now }
     ensures { LeadingDigits s.now from result.to result.value }
 {
@@ -73,7 +74,7 @@ fn leading_digits(s: &[u8], from: usize) -> Leading
 }
 
 // Whether digits from `from` to `to` are a number of at most `limit`.
-fn is_number(from: usize, to: usize, value: u64, limit: u32) -> bool
+pub fn is_number(from: usize, to: usize, value: u64, limit: u32) -> bool
     ensures { result ≡ is_number from to value limit }
 {
     (from < to) & (value <= u64::from(limit))

@@ -16,12 +16,10 @@ fn skip<P: Fn(u8) -> bool>(s: &[u8], at: usize, passes: P) -> usize
     requires { P.IsAlwaysCallable passes }
     ensures { (p : ℕ → Bool) → Decides (P.post passes) p → result ≡ run_end p s.now at }
 {
-    for i in at..s.len() {
-        if !passes(s[i]) {
-            return i;
-        }
+    match s.get(at..) {
+        Some(rest) => at + rest.iter().position(|b| !passes(*b)).unwrap_or(rest.len()),
+        None => at,
     }
-    at.max(s.len())
 }
 
 // The place of the first byte from `at` on that is no blank, or the end.

@@ -28,7 +28,7 @@ one_more : (t : Bool) {m n : ℕ} → m ≤ n → cond t (suc m) zero ≤ suc n
 one_more true h = suc-le-suc h
 one_more false h = zero-le
 
-run_length : (p : ℕ → Bool) (s : List ℕ) → run p s ≤ length s
+pub run_length : (p : ℕ → Bool) (s : List ℕ) → run p s ≤ length s
 unfolding run
 run_length p [] = zero-le
 run_length p (b ∷ s) = one_more (p b) (run_length p s)

@@ -11,8 +11,8 @@ pub record Reading-on (n : ℕ) (s : List ℕ) (from : ℕ) (l : List ℕ) (at i
   pub space : from + longest_plain (suc n) ≤ length s
   pub count : i ≤ n
   pub near : at ≤ from + i * 12
-  pub room : length l ≡ suc n
+  pub room : length l ≡ n
   pub row : Row s from at i (take i l)
 
-abbrev pub invariant-loop-i : goal.invariant-loop-i
-invariant-loop-i l = Reading-on 25 l.s l.from l.fields l.at l.i
+abbrev pub invariant-loop-field : goal.invariant-loop-field
+invariant-loop-field l = Reading-on 25 l.s l.from l.field-items l.at l.field-index

@@ -4,4 +4,4 @@ use Rattle.book_laws.proofs.Laws.Bytes.{word_joined}
 use Rattle.book_bytes.proofs.field.word_at.Goals as goal
 
 pub returns : goal.returns
-returns c = c.from_be_bytes.ensures ∙ word_joined _ _
+returns c = ?

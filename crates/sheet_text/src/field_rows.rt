@@ -28,7 +28,7 @@ struct Field {
 
 // A row on one line. A macro, since no constant may call a function.
 macro_rules! field {
-    ($symbol:expr, $unit:expr, $meaning:expr, $decimals:expr, $form:expr, $arrangements:expr) => {
+    ($symbol:expr, $unit:expr, $meaning:expr, $decimals:expr; $form:expr, $arrangements:expr) => {
         Field {
             label: Label {
                 symbol: $symbol,
@@ -47,200 +47,32 @@ const DIGITS: usize = 6;
 
 // The rows, in the order of a case's fields. The meanings end in the limits.
 const FIELDS: [Field; WIDTH] = [
-    field!(
-        "  arrangement",
-        "[1 to 6]",
-        "",
-        0,
-        Form::Code(&ARRANGEMENTS),
-        &ALL
-    ),
-    field!(
-        "  conductor",
-        "[1 to 8]",
-        "",
-        0,
-        Form::Code(&CONDUCTORS),
-        &ALL
-    ),
-    field!("  f", "Hz", "frequency [10 to 65]", 2, Form::Plain, &ALL),
-    field!(
-        "  theta_c",
-        "deg C",
-        "conductor [40 to 250]",
-        2,
-        Form::Signed,
-        &ALL
-    ),
-    field!(
-        "  theta_a",
-        "deg C",
-        "ambient [-40 to 60]",
-        2,
-        Form::Signed,
-        &ALL
-    ),
-    field!(
-        "  R0",
-        "uohm/m",
-        "conductor, d.c., at 20 deg C [5 to 20000]",
-        3,
-        Form::Plain,
-        &ALL
-    ),
-    field!(
-        "  dc",
-        "mm",
-        "conductor diameter [1 to 100]",
-        2,
-        Form::Plain,
-        &ALL
-    ),
-    field!(
-        "  s",
-        "mm",
-        "spacing of the axes [1 to 10000]",
-        2,
-        Form::Plain,
-        &ALL
-    ),
-    field!(
-        "  ds",
-        "mm",
-        "diameter over conductor screen [1 to 200]",
-        2,
-        Form::Plain,
-        &ALL
-    ),
-    field!(
-        "  Di",
-        "mm",
-        "diameter over insulation [1 to 300]",
-        2,
-        Form::Plain,
-        &ALL
-    ),
-    field!(
-        "  U0",
-        "V",
-        "voltage to earth [0 to 300000]",
-        0,
-        Form::Plain,
-        &ALL
-    ),
-    field!(
-        "  e",
-        "",
-        "relative permittivity [1 to 8]",
-        2,
-        Form::Plain,
-        &ALL
-    ),
-    field!(
-        "  t",
-        "",
-        "loss factor [0.00001 to 0.1]",
-        5,
-        Form::Plain,
-        &ALL
-    ),
-    field!(
-        "  d",
-        "mm",
-        "mean sheath diameter [1 to 500]",
-        2,
-        Form::Plain,
-        &ALL
-    ),
-    field!("  sheath", "[1 to 6]", "", 0, Form::Code(&METALS), &ALL),
-    field!(
-        "  Rs0",
-        "uohm/m",
-        "sheath, at 20 deg C [1 to 20000]",
-        3,
-        Form::Plain,
-        &ALL
-    ),
-    field!(
-        "  theta_s",
-        "deg C",
-        "sheath [-40 to 250]",
-        2,
-        Form::Signed,
-        &ALL
-    ),
-    field!(
-        "  armour",
-        "[1 to 6]",
-        "",
-        0,
-        Form::Code(&METALS),
-        &[SL_TYPE]
-    ),
-    field!(
-        "  RA0",
-        "uohm/m",
-        "armour, a.c., at 20 deg C [1 to 20000]",
-        3,
-        Form::Plain,
-        &[SL_TYPE]
-    ),
-    field!(
-        "  theta_A",
-        "deg C",
-        "armour [-40 to 250]",
-        2,
-        Form::Signed,
-        &[SL_TYPE]
-    ),
-    field!(
-        "  c",
-        "mm",
-        "core axis to cable axis [1 to 500]",
-        2,
-        Form::Plain,
-        &[SL_TYPE, COMMON_SHEATH]
-    ),
-    field!(
-        "  dA",
-        "mm",
-        "mean armour diameter [1 to 500]",
-        2,
-        Form::Plain,
-        &[SL_TYPE]
-    ),
-    field!(
-        "  T1",
-        "K.m/W",
-        "conductor to sheath [0.001 to 10]",
-        6,
-        Form::Plain,
-        &ALL
-    ),
-    field!(
-        "  T2",
-        "K.m/W",
-        "sheath to armour [0 to 10]",
-        6,
-        Form::Plain,
-        &ALL
-    ),
-    field!(
-        "  T3",
-        "K.m/W",
-        "outer covering [0 to 10]",
-        6,
-        Form::Plain,
-        &ALL
-    ),
-    field!(
-        "  T4",
-        "K.m/W",
-        "surface to ambient [0.01 to 20]",
-        6,
-        Form::Plain,
-        &ALL
-    ),
+    field!("  arrangement", "[1 to 6]", "", 0; Form::Code(&ARRANGEMENTS), &ALL),
+    field!("  conductor", "[1 to 8]", "", 0; Form::Code(&CONDUCTORS), &ALL),
+    field!("  f", "Hz", "frequency [10 to 65]", 2; Form::Plain, &ALL),
+    field!("  theta_c", "deg C", "conductor [40 to 250]", 2; Form::Signed, &ALL),
+    field!("  theta_a", "deg C", "ambient [-40 to 60]", 2; Form::Signed, &ALL),
+    field!("  R0", "uohm/m", "conductor, d.c., at 20 deg C [5 to 20000]", 3; Form::Plain, &ALL),
+    field!("  dc", "mm", "conductor diameter [1 to 100]", 2; Form::Plain, &ALL),
+    field!("  s", "mm", "spacing of the axes [1 to 10000]", 2; Form::Plain, &ALL),
+    field!("  ds", "mm", "diameter over conductor screen [1 to 200]", 2; Form::Plain, &ALL),
+    field!("  Di", "mm", "diameter over insulation [1 to 300]", 2; Form::Plain, &ALL),
+    field!("  U0", "V", "voltage to earth [0 to 300000]", 0; Form::Plain, &ALL),
+    field!("  e", "", "relative permittivity [1 to 8]", 2; Form::Plain, &ALL),
+    field!("  t", "", "loss factor [0.00001 to 0.1]", 5; Form::Plain, &ALL),
+    field!("  d", "mm", "mean sheath diameter [1 to 500]", 2; Form::Plain, &ALL),
+    field!("  sheath", "[1 to 6]", "", 0; Form::Code(&METALS), &ALL),
+    field!("  Rs0", "uohm/m", "sheath, at 20 deg C [1 to 20000]", 3; Form::Plain, &ALL),
+    field!("  theta_s", "deg C", "sheath [-40 to 250]", 2; Form::Signed, &ALL),
+    field!("  armour", "[1 to 6]", "", 0; Form::Code(&METALS), &[SL_TYPE]),
+    field!("  RA0", "uohm/m", "armour, a.c., at 20 deg C [1 to 20000]", 3; Form::Plain, &[SL_TYPE]),
+    field!("  theta_A", "deg C", "armour [-40 to 250]", 2; Form::Signed, &[SL_TYPE]),
+    field!("  c", "mm", "core axis to cable axis [1 to 500]", 2; Form::Plain, &[SL_TYPE, COMMON_SHEATH]),
+    field!("  dA", "mm", "mean armour diameter [1 to 500]", 2; Form::Plain, &[SL_TYPE]),
+    field!("  T1", "K.m/W", "conductor to sheath [0.001 to 10]", 6; Form::Plain, &ALL),
+    field!("  T2", "K.m/W", "sheath to armour [0 to 10]", 6; Form::Plain, &ALL),
+    field!("  T3", "K.m/W", "outer covering [0 to 10]", 6; Form::Plain, &ALL),
+    field!("  T4", "K.m/W", "surface to ambient [0.01 to 20]", 6; Form::Plain, &ALL),
 ];
 
 // A field in its unit.

@@ -15,7 +15,7 @@ struct Number {
 
 // A row on one line. A macro, since no constant may call a function.
 macro_rules! number {
-    ($symbol:expr, $unit:expr, $meaning:expr, $decimals:expr, $arrangements:expr) => {
+    ($symbol:expr, $unit:expr, $meaning:expr, $decimals:expr; $arrangements:expr) => {
         Number {
             label: Label {
                 symbol: $symbol,
@@ -33,19 +33,19 @@ pub(crate) const DIGITS: usize = 16;
 
 // The rows, in the order of the sheet's numbers.
 const NUMBERS: [Number; SHEET] = [
-    number!("  R'", "uohm/m", "conductor, d.c., at theta_c", 10, &ALL),
-    number!("  Rs", "uohm/m", "sheath, at theta_s", 10, &ALL),
-    number!("  RA", "uohm/m", "armour, a.c., at theta_A", 10, &[SL_TYPE]),
-    number!("  B", "uohm/m", "4 pi f / 10^7", 10, &ALL),
-    number!("  ys", "", "skin effect factor", 12, &ALL),
-    number!("  yp", "", "proximity effect factor", 12, &ALL),
-    number!("  R", "uohm/m", "conductor, a.c., at theta_c", 10, &ALL),
-    number!("  X", "uohm/m", "sheath reactance", 10, &ALL),
-    number!("  S", "uohm/m", "sheath loss / I^2", 10, &ALL),
-    number!("  W", "uohm/m", "armour loss / I^2", 10, &[SL_TYPE]),
-    number!("  Wd", "W/m", "dielectric loss of a core", 12, &ALL),
-    number!("  dd", "K", "rise by the dielectric loss", 9, &ALL),
-    number!("  E", "K/A^2", "rise by the current / I^2", 16, &ALL),
+    number!("  R'", "uohm/m", "conductor, d.c., at theta_c", 10; &ALL),
+    number!("  Rs", "uohm/m", "sheath, at theta_s", 10; &ALL),
+    number!("  RA", "uohm/m", "armour, a.c., at theta_A", 10; &[SL_TYPE]),
+    number!("  B", "uohm/m", "4 pi f / 10^7", 10; &ALL),
+    number!("  ys", "", "skin effect factor", 12; &ALL),
+    number!("  yp", "", "proximity effect factor", 12; &ALL),
+    number!("  R", "uohm/m", "conductor, a.c., at theta_c", 10; &ALL),
+    number!("  X", "uohm/m", "sheath reactance", 10; &ALL),
+    number!("  S", "uohm/m", "sheath loss / I^2", 10; &ALL),
+    number!("  W", "uohm/m", "armour loss / I^2", 10; &[SL_TYPE]),
+    number!("  Wd", "W/m", "dielectric loss of a core", 12; &ALL),
+    number!("  dd", "K", "rise by the dielectric loss", 9; &ALL),
+    number!("  E", "K/A^2", "rise by the current / I^2", 16; &ALL),
 ];
 
 pub(crate) fn put_number<const N: usize>(

@@ -41,6 +41,8 @@ fn put_numbers<const N: usize>(out: &mut ArrayString<N>, number: u64, answer: u6
 
 // The lines of the first `count` records, of which the first stands at `first`. `first` and `count`
 // beside the buffer: a Description keeps no buffer, since append writes in it.
+// Not `(1..=u64::MAX).zip(..)`: its proof needs laws of how many numbers a range has left, and
+// `enumerate` none.
 fn put_records<const N: usize>(out: &mut ArrayString<N>, book: &[u8], first: usize, count: usize)
     requires room { array_string_len out.old + 63 * count ≤ N }
     requires inside { first + record_length rbk1 * count ≤ length book.now }

@@ -1,6 +1,6 @@
 -- What the operations return, as the answers of `book_laws`. Assumes nothing.
 use Rattle.std.specs.Prelude.{Result, Ok, Err, List, ℕ}
-use Rattle.book.specs.declared.accept.Accepted as Code
+use Rattle.book_bytes.specs.declared.trailer.Description as Code
 use Rattle.book_bytes.specs.declared.record.Record.{Record}
 use Rattle.book_bytes.specs.declared.refusal.Refusal.{Refusal}
 use Rattle.book_bytes.specs.Refusal.{number_of, named_by}
@@ -19,6 +19,7 @@ abbrev pub fields_read : Result Record Refusal → Fields
 fields_read (Ok r) = record { number = 0; fields = fields_in r }
 fields_read (Err refusal) = unread rbk1 (number_of refusal)
 
-abbrev pub acceptance_of : Result Code.Accepted Refusal → Acceptance
-acceptance_of (Ok a) = record { number = 0; count = a.count; note = a.note; named = 0 }
+-- the note's length is the place of the first record
+abbrev pub acceptance_of : Result Code.Description Refusal → Acceptance
+acceptance_of (Ok d) = record { number = 0; count = d.count; note = d.first; named = 0 }
 acceptance_of (Err refusal) = unaccepted (number_of refusal) (named_by refusal)

@@ -5,25 +5,16 @@ ghost use Rattle.book.specs.Answers.{acceptance_of};
 
 use book_bytes::record::{agrees, records};
 use book_bytes::refusal::Refusal;
-use book_bytes::trailer::describe_book;
+use book_bytes::trailer::{Description, describe_book};
 
-// How many records there are, and the note's length.
-#[derive(Clone, Copy)]
-pub struct Accepted {
-    pub count: usize,
-    pub note: usize,
-}
-
-pub fn accept(buffer: &[u8], used: usize) -> Result<Accepted, Refusal>
+// Answers what the trailer says. The note's length is the place of the first record.
+pub fn accept(buffer: &[u8], used: usize) -> Result<Description, Refusal>
     ensures { acceptance_of result ≡ accept_of buffer.now used }
 {
     let book = describe_book(buffer, used)?;
     let records = records(buffer, book.first, book.count);
     match records.iter().position(|stored| !agrees(stored)) {
         Some(i) => Err(Refusal::Disagrees(i + 1)),
-        None => Ok(Accepted {
-            count: book.count,
-            note: book.first,
-        }),
+        None => Ok(book),
     }
 }

@@ -9,7 +9,7 @@ pub(crate) fn word_at(bytes: &[u8], at: usize) -> u32
     requires { at + 4 ≤ length bytes.now }
     ensures { result ≡ word_at bytes.now at }
 {
-    u32::from_be_bytes([bytes[at], bytes[at + 1], bytes[at + 2], bytes[at + 3]])
+    u32::from_be_bytes(*bytes[at..].first_chunk().unwrap())
 }
 
 pub(crate) fn put_word(bytes: &mut [u8], at: usize, word: u32)

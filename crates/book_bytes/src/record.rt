@@ -50,6 +50,7 @@ impl Record {
         ensures answer { result.answer ≡ answer_at rbk1 stored.now 0 }
         ensures rating { result.rating ≡ rating_at rbk1 stored.now 0 }
     {
+        // Field i stands at 4 i, as ANSWER_AT and RATING_AT count: chunks of four would be no plainer.
         let mut case = [0; WIDTH];
         for (i, field) in case.iter_mut().enumerate() {
             *field = word_at(stored, 4 * i);
@@ -64,6 +65,7 @@ impl Record {
     pub fn to_bytes(&self) -> Stored
         ensures { result ≡ words_bytes (fields_in self.now) }
     {
+        // As in of_bytes.
         let mut stored = [0; RECORD_LENGTH];
         for (i, field) in self.case.iter().enumerate() {
             put_word(&mut stored, 4 * i, *field);
@@ -74,7 +76,8 @@ impl Record {
     }
 }
 
-// Whether a record has the answer and the rating of its case.
+// Whether a record has the answer and the rating of its case. Not a derived equality: it would compare
+// the cases too, which are the same.
 pub fn agrees(stored: &Stored) -> bool
     ensures { result ≡ agrees rbk1 stored.now 0 }
 {
@@ -83,7 +86,8 @@ pub fn agrees(stored: &Stored) -> bool
     record.answer == rated.answer && record.rating == rated.rating
 }
 
-// The records of a book, which stand one after another from `first` on.
+// The records of a book, which stand one after another from `first` on. `first` and `count` beside the
+// buffer: a Description keeps no buffer, since append writes in it.
 pub fn records(buffer: &[u8], first: usize, count: usize) -> &[Stored]
     requires { first + record_length rbk1 * count ≤ length buffer.now }
     ensures { StoredFrom buffer.now first count result.now }

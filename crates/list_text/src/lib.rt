@@ -26,7 +26,8 @@ fn put_line<const N: usize>(out: &mut ArrayString<N>, words: &str, number: u64)
     out.push('\n');
 }
 
-// A record's number, answer and rating with a blank between them, and a line feed.
+// A record's number, answer and rating with a blank between them, and a line feed. Three numbers here,
+// and a sheet in rate_text: one function for both would need a list made first.
 fn put_numbers<const N: usize>(out: &mut ArrayString<N>, number: u64, answer: u64, rating: u64)
     requires { array_string_len out.old + 63 ≤ N }
     ensures text { out.new.bytes ≡ out.old.bytes ++ (written (number ∷ answer ∷ rating ∷ []) ++ (10 ∷ [])) }
@@ -38,7 +39,10 @@ fn put_numbers<const N: usize>(out: &mut ArrayString<N>, number: u64, answer: u6
     out.push('\n');
 }
 
-// The lines of the first `count` records, of which the first stands at `first`.
+// The lines of the first `count` records, of which the first stands at `first`. `first` and `count`
+// beside the buffer: a Description keeps no buffer, since append writes in it.
+// Not `(1..=u64::MAX).zip(..)`: its proof needs laws of how many numbers a range has left, and
+// `enumerate` none.
 fn put_records<const N: usize>(out: &mut ArrayString<N>, book: &[u8], first: usize, count: usize)
     requires room { array_string_len out.old + 63 * count ≤ N }
     requires inside { first + record_length rbk1 * count ≤ length book.now }
@@ -81,7 +85,7 @@ pub fn list_book(book: &[u8; MOST], used: usize) -> Listing
     match accept(book, used) {
         Ok(accepted) => {
             put_line(&mut out, "book ", accepted.count as u64);
-            put_records(&mut out, book, accepted.note, accepted.count);
+            put_records(&mut out, book, accepted.first, accepted.count);
         }
         Err(refusal) => put_refusal(&mut out, refusal),
     }

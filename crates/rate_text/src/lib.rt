@@ -1,6 +1,6 @@
 // What the program `rate` prints for a line of its input, and what a program says of a line. Each
-// function appends to the text in `out`. A bound on the text's length shows that what comes next has
-// room.
+// function appends to the text in `out`. Each asks for its room anew, since what is left of the buffer
+// changes with each.
 #![tactic(auto)]
 
 ghost use Rattle.std.specs.Prelude.{◌++◌, ◌≡◌, ◌+◌, ◌≤◌, length};
@@ -48,7 +48,6 @@ fn put_numbers<const N: usize>(
 }
 
 // Appends the line for a case, by what it is rated.
-#[tactic(auto, unfolding(rating::specs::Rate::refused))]
 fn put_answer<const N: usize>(out: &mut ArrayString<N>, rated: Result<Rated, Refusal>)
     requires { array_string_len out.old + answer_room ≤ N }
     ensures text { out.new.bytes ≡ out.old.bytes ++ text_of (answer_of rated) }

@@ -1,10 +1,10 @@
 // The proved functions under C's calling convention, for programs in C and Rust: numbers and slices
-// only, and no logic. A slice of a wrong length is refused by WRONG_LENGTH, and then nothing is
-// written. C has no Result: it gets 0 or the refusal's number, and zeros beside a refusal. The header
-// is include/sheafdawn.h, the Rust wrapper rust/sheafdawn.rs.
+// only, and no logic. C has no Result: it gets 0 or the refusal's number, and zeros beside a refusal.
+// The header is include/sheafdawn.h, the Rust wrapper rust/sheafdawn.rs.
 #![tactic(auto)]
 
-ghost use Rattle.std.specs.Prelude.{◌≡◌};
+ghost use Rattle.std.specs.Prelude.{[], ◌∷◌, ◌≡◌, length};
+ghost use Rattle.book.specs.Answers.{written_of};
 ghost use Rattle.book_bytes.specs.Refusal.{named_by};
 ghost use Rattle.sheafdawn.specs.Calls.{call, book_call, rate_call, start_call, append_call, read_call, accept_call};
 
@@ -17,6 +17,7 @@ use book_bytes::refusal::Refusal;
 use fields::WIDTH;
 use rating::rate::rate;
 
+// Refuses a slice of a wrong length, and then nothing is written.
 pub const WRONG_LENGTH: u32 = 4294967295;
 
 // Rates a case of 26 words. `out` gets 14 numbers: the rating in mA and the sheet. Answers 0 or the
@@ -44,6 +45,24 @@ pub extern "C" fn sheafdawn_rate(case: &[u32], out: &mut [u64]) -> u32
     }
 }
 
+// What start and append answer: 0 or the refusal's number, and `out` gets the used length.
+fn put_used(answered: Result<usize, Refusal>, out: &mut [usize]) -> u32
+    requires { length out.old ≡ 1 }
+    ensures number { result ≡ (written_of answered []).number }
+    ensures used { out.new ≡ (written_of answered []).used ∷ [] }
+{
+    match answered {
+        Ok(used) => {
+            out[0] = used;
+            0
+        }
+        Err(refusal) => {
+            out[0] = 0;
+            u32::from(refusal)
+        }
+    }
+}
+
 // Starts a book after a note of `note` bytes. `out` gets one number, the used length. Answers 0 or the
 // refusal's number.
 #[unsafe(no_mangle)]
@@ -54,16 +73,7 @@ pub extern "C" fn sheafdawn_start(buffer: &mut [u8], note: usize, out: &mut [usi
     if out.len() != 1 {
         return WRONG_LENGTH;
     }
-    match start(buffer, note) {
-        Ok(started) => {
-            out[0] = started;
-            0
-        }
-        Err(refusal) => {
-            out[0] = 0;
-            u32::from(refusal)
-        }
-    }
+    put_used(start(buffer, note), out)
 }
 
 // Appends a case of 26 words to a book. `out` gets one number, the new used length. Answers 0 or the
@@ -84,16 +94,7 @@ pub extern "C" fn sheafdawn_append(
     if out.len() != 1 {
         return WRONG_LENGTH;
     }
-    match append(buffer, used, *case) {
-        Ok(appended) => {
-            out[0] = appended;
-            0
-        }
-        Err(refusal) => {
-            out[0] = 0;
-            u32::from(refusal)
-        }
-    }
+    put_used(append(buffer, used, *case), out)
 }
 
 // Reads a record by its index from 0. `out` gets 28 words: the inputs, the answer and the rating.
@@ -140,7 +141,7 @@ pub extern "C" fn sheafdawn_accept(buffer: &[u8], used: usize, out: &mut [usize]
     }
     match accept(buffer, used) {
         Ok(accepted) => {
-            out.copy_from_slice(&[accepted.count, accepted.note, 0]);
+            out.copy_from_slice(&[accepted.count, accepted.first, 0]);
             0
         }
         Err(refusal) => {

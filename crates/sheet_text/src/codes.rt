@@ -2,8 +2,8 @@
 // or metal it stands for (docs/RATING.md has the codes).
 ghost use Rattle.std.specs.Prelude.{[], ◌≡◌, ◌≤◌, length};
 
-// The arrangements by the word of a case, since the kinds that the rating makes of it are its own; and
-// those that have fields which others lack.
+// The arrangements by the word of a case: rating's Kind has 1 and 2 as one, and a refused case may
+// have none; and those that have fields which others lack.
 pub const ALL: [u32; 6] = [1, 2, 3, 4, SL_TYPE, COMMON_SHEATH];
 
 pub const SL_TYPE: u32 = 5;

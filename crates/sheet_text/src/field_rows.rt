@@ -26,271 +26,53 @@ struct Field {
     arrangements: &'static [u32],
 }
 
+// A row on one line. A macro, since no constant may call a function.
+macro_rules! field {
+    ($symbol:expr, $unit:expr, $meaning:expr, $decimals:expr; $form:expr, $arrangements:expr) => {
+        Field {
+            label: Label {
+                symbol: $symbol,
+                unit: $unit,
+                meaning: $meaning,
+                decimals: $decimals,
+            },
+            form: $form,
+            arrangements: $arrangements,
+        }
+    };
+}
+
 // The digits of the column after the point.
 const DIGITS: usize = 6;
 
 // The rows, in the order of a case's fields. The meanings end in the limits.
 const FIELDS: [Field; WIDTH] = [
-    Field {
-        label: Label {
-            symbol: "  arrangement",
-            unit: "[1 to 6]",
-            meaning: "",
-            decimals: 0,
-        },
-        form: Form::Code(&ARRANGEMENTS),
-        arrangements: &ALL,
-    },
-    Field {
-        label: Label {
-            symbol: "  conductor",
-            unit: "[1 to 8]",
-            meaning: "",
-            decimals: 0,
-        },
-        form: Form::Code(&CONDUCTORS),
-        arrangements: &ALL,
-    },
-    Field {
-        label: Label {
-            symbol: "  f",
-            unit: "Hz",
-            meaning: "frequency [10 to 65]",
-            decimals: 2,
-        },
-        form: Form::Plain,
-        arrangements: &ALL,
-    },
-    Field {
-        label: Label {
-            symbol: "  theta_c",
-            unit: "deg C",
-            meaning: "conductor [40 to 250]",
-            decimals: 2,
-        },
-        form: Form::Signed,
-        arrangements: &ALL,
-    },
-    Field {
-        label: Label {
-            symbol: "  theta_a",
-            unit: "deg C",
-            meaning: "ambient [-40 to 60]",
-            decimals: 2,
-        },
-        form: Form::Signed,
-        arrangements: &ALL,
-    },
-    Field {
-        label: Label {
-            symbol: "  R0",
-            unit: "uohm/m",
-            meaning: "conductor, d.c., at 20 deg C [5 to 20000]",
-            decimals: 3,
-        },
-        form: Form::Plain,
-        arrangements: &ALL,
-    },
-    Field {
-        label: Label {
-            symbol: "  dc",
-            unit: "mm",
-            meaning: "conductor diameter [1 to 100]",
-            decimals: 2,
-        },
-        form: Form::Plain,
-        arrangements: &ALL,
-    },
-    Field {
-        label: Label {
-            symbol: "  s",
-            unit: "mm",
-            meaning: "spacing of the axes [1 to 10000]",
-            decimals: 2,
-        },
-        form: Form::Plain,
-        arrangements: &ALL,
-    },
-    Field {
-        label: Label {
-            symbol: "  ds",
-            unit: "mm",
-            meaning: "diameter over conductor screen [1 to 200]",
-            decimals: 2,
-        },
-        form: Form::Plain,
-        arrangements: &ALL,
-    },
-    Field {
-        label: Label {
-            symbol: "  Di",
-            unit: "mm",
-            meaning: "diameter over insulation [1 to 300]",
-            decimals: 2,
-        },
-        form: Form::Plain,
-        arrangements: &ALL,
-    },
-    Field {
-        label: Label {
-            symbol: "  U0",
-            unit: "V",
-            meaning: "voltage to earth [0 to 300000]",
-            decimals: 0,
-        },
-        form: Form::Plain,
-        arrangements: &ALL,
-    },
-    Field {
-        label: Label {
-            symbol: "  e",
-            unit: "",
-            meaning: "relative permittivity [1 to 8]",
-            decimals: 2,
-        },
-        form: Form::Plain,
-        arrangements: &ALL,
-    },
-    Field {
-        label: Label {
-            symbol: "  t",
-            unit: "",
-            meaning: "loss factor [0.00001 to 0.1]",
-            decimals: 5,
-        },
-        form: Form::Plain,
-        arrangements: &ALL,
-    },
-    Field {
-        label: Label {
-            symbol: "  d",
-            unit: "mm",
-            meaning: "mean sheath diameter [1 to 500]",
-            decimals: 2,
-        },
-        form: Form::Plain,
-        arrangements: &ALL,
-    },
-    Field {
-        label: Label {
-            symbol: "  sheath",
-            unit: "[1 to 6]",
-            meaning: "",
-            decimals: 0,
-        },
-        form: Form::Code(&METALS),
-        arrangements: &ALL,
-    },
-    Field {
-        label: Label {
-            symbol: "  Rs0",
-            unit: "uohm/m",
-            meaning: "sheath, at 20 deg C [1 to 20000]",
-            decimals: 3,
-        },
-        form: Form::Plain,
-        arrangements: &ALL,
-    },
-    Field {
-        label: Label {
-            symbol: "  theta_s",
-            unit: "deg C",
-            meaning: "sheath [-40 to 250]",
-            decimals: 2,
-        },
-        form: Form::Signed,
-        arrangements: &ALL,
-    },
-    Field {
-        label: Label {
-            symbol: "  armour",
-            unit: "[1 to 6]",
-            meaning: "",
-            decimals: 0,
-        },
-        form: Form::Code(&METALS),
-        arrangements: &[SL_TYPE],
-    },
-    Field {
-        label: Label {
-            symbol: "  RA0",
-            unit: "uohm/m",
-            meaning: "armour, a.c., at 20 deg C [1 to 20000]",
-            decimals: 3,
-        },
-        form: Form::Plain,
-        arrangements: &[SL_TYPE],
-    },
-    Field {
-        label: Label {
-            symbol: "  theta_A",
-            unit: "deg C",
-            meaning: "armour [-40 to 250]",
-            decimals: 2,
-        },
-        form: Form::Signed,
-        arrangements: &[SL_TYPE],
-    },
-    Field {
-        label: Label {
-            symbol: "  c",
-            unit: "mm",
-            meaning: "core axis to cable axis [1 to 500]",
-            decimals: 2,
-        },
-        form: Form::Plain,
-        arrangements: &[SL_TYPE, COMMON_SHEATH],
-    },
-    Field {
-        label: Label {
-            symbol: "  dA",
-            unit: "mm",
-            meaning: "mean armour diameter [1 to 500]",
-            decimals: 2,
-        },
-        form: Form::Plain,
-        arrangements: &[SL_TYPE],
-    },
-    Field {
-        label: Label {
-            symbol: "  T1",
-            unit: "K.m/W",
-            meaning: "conductor to sheath [0.001 to 10]",
-            decimals: 6,
-        },
-        form: Form::Plain,
-        arrangements: &ALL,
-    },
-    Field {
-        label: Label {
-            symbol: "  T2",
-            unit: "K.m/W",
-            meaning: "sheath to armour [0 to 10]",
-            decimals: 6,
-        },
-        form: Form::Plain,
-        arrangements: &ALL,
-    },
-    Field {
-        label: Label {
-            symbol: "  T3",
-            unit: "K.m/W",
-            meaning: "outer covering [0 to 10]",
-            decimals: 6,
-        },
-        form: Form::Plain,
-        arrangements: &ALL,
-    },
-    Field {
-        label: Label {
-            symbol: "  T4",
-            unit: "K.m/W",
-            meaning: "surface to ambient [0.01 to 20]",
-            decimals: 6,
-        },
-        form: Form::Plain,
-        arrangements: &ALL,
-    },
+    field!("  arrangement", "[1 to 6]", "", 0; Form::Code(&ARRANGEMENTS), &ALL),
+    field!("  conductor", "[1 to 8]", "", 0; Form::Code(&CONDUCTORS), &ALL),
+    field!("  f", "Hz", "frequency [10 to 65]", 2; Form::Plain, &ALL),
+    field!("  theta_c", "deg C", "conductor [40 to 250]", 2; Form::Signed, &ALL),
+    field!("  theta_a", "deg C", "ambient [-40 to 60]", 2; Form::Signed, &ALL),
+    field!("  R0", "uohm/m", "conductor, d.c., at 20 deg C [5 to 20000]", 3; Form::Plain, &ALL),
+    field!("  dc", "mm", "conductor diameter [1 to 100]", 2; Form::Plain, &ALL),
+    field!("  s", "mm", "spacing of the axes [1 to 10000]", 2; Form::Plain, &ALL),
+    field!("  ds", "mm", "diameter over conductor screen [1 to 200]", 2; Form::Plain, &ALL),
+    field!("  Di", "mm", "diameter over insulation [1 to 300]", 2; Form::Plain, &ALL),
+    field!("  U0", "V", "voltage to earth [0 to 300000]", 0; Form::Plain, &ALL),
+    field!("  e", "", "relative permittivity [1 to 8]", 2; Form::Plain, &ALL),
+    field!("  t", "", "loss factor [0.00001 to 0.1]", 5; Form::Plain, &ALL),
+    field!("  d", "mm", "mean sheath diameter [1 to 500]", 2; Form::Plain, &ALL),
+    field!("  sheath", "[1 to 6]", "", 0; Form::Code(&METALS), &ALL),
+    field!("  Rs0", "uohm/m", "sheath, at 20 deg C [1 to 20000]", 3; Form::Plain, &ALL),
+    field!("  theta_s", "deg C", "sheath [-40 to 250]", 2; Form::Signed, &ALL),
+    field!("  armour", "[1 to 6]", "", 0; Form::Code(&METALS), &[SL_TYPE]),
+    field!("  RA0", "uohm/m", "armour, a.c., at 20 deg C [1 to 20000]", 3; Form::Plain, &[SL_TYPE]),
+    field!("  theta_A", "deg C", "armour [-40 to 250]", 2; Form::Signed, &[SL_TYPE]),
+    field!("  c", "mm", "core axis to cable axis [1 to 500]", 2; Form::Plain, &[SL_TYPE, COMMON_SHEATH]),
+    field!("  dA", "mm", "mean armour diameter [1 to 500]", 2; Form::Plain, &[SL_TYPE]),
+    field!("  T1", "K.m/W", "conductor to sheath [0.001 to 10]", 6; Form::Plain, &ALL),
+    field!("  T2", "K.m/W", "sheath to armour [0 to 10]", 6; Form::Plain, &ALL),
+    field!("  T3", "K.m/W", "outer covering [0 to 10]", 6; Form::Plain, &ALL),
+    field!("  T4", "K.m/W", "surface to ambient [0.01 to 20]", 6; Form::Plain, &ALL),
 ];
 
 // A field in its unit.
@@ -324,7 +106,8 @@ fn put_field<const N: usize>(out: &mut ArrayString<N>, field: &Field, x: u32) ->
     )
 }
 
-// The fields that the case's arrangement has, or all of them.
+// The fields that the case's arrangement has, or all of them. A flag, since there are two ways and no
+// caller has another.
 pub fn put_fields<const N: usize>(out: &mut ArrayString<N>, x: Case, all: bool) -> fmt::Result {
     let arrangement = x[ARRANGEMENT];
     for (field, value) in FIELDS.iter().zip(x) {

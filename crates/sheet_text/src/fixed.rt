@@ -12,7 +12,8 @@ pub type Value = ArrayString<41>;
 
 // Appends x / 10^decimals, with exactly that many digits after the point, and no point where there
 // are none. The digits after the point are formatted with a one in front of them, which keeps their
-// zeros and is left out.
+// zeros and is left out. Not by std's `{:0>}`: `write!` promises its text only where it is Ok, and does
+// not promise that it is where there is room.
 pub fn put_fixed<const N: usize>(out: &mut ArrayString<N>, x: u64, decimals: u32)
     requires room { array_string_len out.old + 40 ≤ N }
     requires few_decimals { decimals ≤ 16 }

@@ -1,15 +1,31 @@
 // The numbers of a rated case, a line for each, in the units that a person reads (docs/RATING.md has
 // their order and what they mean).
+use crate::codes::{ALL, SL_TYPE};
 use crate::fixed::{Value, put_fixed};
 use crate::line::{Label, put_line};
 use arrayvec::ArrayString;
 use rating::rate::SHEET;
 use std::fmt;
 
-// A row of the sheet, and whether it is one that a cable without armour lacks.
+// A row of the sheet, and the arrangements that have it: only the SL type has armour.
 struct Number {
     label: Label,
-    of_armour: bool,
+    arrangements: &'static [u32],
+}
+
+// A row on one line. A macro, since no constant may call a function.
+macro_rules! number {
+    ($symbol:expr, $unit:expr, $meaning:expr, $decimals:expr; $arrangements:expr) => {
+        Number {
+            label: Label {
+                symbol: $symbol,
+                unit: $unit,
+                meaning: $meaning,
+                decimals: $decimals,
+            },
+            arrangements: $arrangements,
+        }
+    };
 }
 
 // The digits of the column after the point.
@@ -17,123 +33,19 @@ pub(crate) const DIGITS: usize = 16;
 
 // The rows, in the order of the sheet's numbers.
 const NUMBERS: [Number; SHEET] = [
-    Number {
-        label: Label {
-            symbol: "  R'",
-            unit: "uohm/m",
-            meaning: "conductor, d.c., at theta_c",
-            decimals: 10,
-        },
-        of_armour: false,
-    },
-    Number {
-        label: Label {
-            symbol: "  Rs",
-            unit: "uohm/m",
-            meaning: "sheath, at theta_s",
-            decimals: 10,
-        },
-        of_armour: false,
-    },
-    Number {
-        label: Label {
-            symbol: "  RA",
-            unit: "uohm/m",
-            meaning: "armour, a.c., at theta_A",
-            decimals: 10,
-        },
-        of_armour: true,
-    },
-    Number {
-        label: Label {
-            symbol: "  B",
-            unit: "uohm/m",
-            meaning: "4 pi f / 10^7",
-            decimals: 10,
-        },
-        of_armour: false,
-    },
-    Number {
-        label: Label {
-            symbol: "  ys",
-            unit: "",
-            meaning: "skin effect factor",
-            decimals: 12,
-        },
-        of_armour: false,
-    },
-    Number {
-        label: Label {
-            symbol: "  yp",
-            unit: "",
-            meaning: "proximity effect factor",
-            decimals: 12,
-        },
-        of_armour: false,
-    },
-    Number {
-        label: Label {
-            symbol: "  R",
-            unit: "uohm/m",
-            meaning: "conductor, a.c., at theta_c",
-            decimals: 10,
-        },
-        of_armour: false,
-    },
-    Number {
-        label: Label {
-            symbol: "  X",
-            unit: "uohm/m",
-            meaning: "sheath reactance",
-            decimals: 10,
-        },
-        of_armour: false,
-    },
-    Number {
-        label: Label {
-            symbol: "  S",
-            unit: "uohm/m",
-            meaning: "sheath loss / I^2",
-            decimals: 10,
-        },
-        of_armour: false,
-    },
-    Number {
-        label: Label {
-            symbol: "  W",
-            unit: "uohm/m",
-            meaning: "armour loss / I^2",
-            decimals: 10,
-        },
-        of_armour: true,
-    },
-    Number {
-        label: Label {
-            symbol: "  Wd",
-            unit: "W/m",
-            meaning: "dielectric loss of a core",
-            decimals: 12,
-        },
-        of_armour: false,
-    },
-    Number {
-        label: Label {
-            symbol: "  dd",
-            unit: "K",
-            meaning: "rise by the dielectric loss",
-            decimals: 9,
-        },
-        of_armour: false,
-    },
-    Number {
-        label: Label {
-            symbol: "  E",
-            unit: "K/A^2",
-            meaning: "rise by the current / I^2",
-            decimals: 16,
-        },
-        of_armour: false,
-    },
+    number!("  R'", "uohm/m", "conductor, d.c., at theta_c", 10; &ALL),
+    number!("  Rs", "uohm/m", "sheath, at theta_s", 10; &ALL),
+    number!("  RA", "uohm/m", "armour, a.c., at theta_A", 10; &[SL_TYPE]),
+    number!("  B", "uohm/m", "4 pi f / 10^7", 10; &ALL),
+    number!("  ys", "", "skin effect factor", 12; &ALL),
+    number!("  yp", "", "proximity effect factor", 12; &ALL),
+    number!("  R", "uohm/m", "conductor, a.c., at theta_c", 10; &ALL),
+    number!("  X", "uohm/m", "sheath reactance", 10; &ALL),
+    number!("  S", "uohm/m", "sheath loss / I^2", 10; &ALL),
+    number!("  W", "uohm/m", "armour loss / I^2", 10; &[SL_TYPE]),
+    number!("  Wd", "W/m", "dielectric loss of a core", 12; &ALL),
+    number!("  dd", "K", "rise by the dielectric loss", 9; &ALL),
+    number!("  E", "K/A^2", "rise by the current / I^2", 16; &ALL),
 ];
 
 pub(crate) fn put_number<const N: usize>(
@@ -146,14 +58,14 @@ pub(crate) fn put_number<const N: usize>(
     put_line(out, label, value.as_str(), DIGITS)
 }
 
-// The sheet, with the armour's numbers or without them.
+// The numbers that the arrangement has.
 pub fn put_numbers<const N: usize>(
     out: &mut ArrayString<N>,
     sheet: [u64; SHEET],
-    armour: bool,
+    arrangement: u32,
 ) -> fmt::Result {
     for (number, x) in NUMBERS.iter().zip(sheet) {
-        if armour || !number.of_armour {
+        if number.arrangements.contains(&arrangement) {
             put_number(out, &number.label, x)?;
         }
     }

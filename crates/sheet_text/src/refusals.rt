@@ -1,5 +1,5 @@
 // A refusal by its number, its word and its rule (docs/RATING.md), so that a person sees what to
-// change.
+// change. Not Display of Refusal: that would stand in rating, and only the sheet has these words.
 use arrayvec::ArrayString;
 use rating::refusal::Refusal;
 use std::fmt::{self, Write};

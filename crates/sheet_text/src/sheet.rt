@@ -1,6 +1,5 @@
 // The whole work sheet: the fields, then the numbers and the rating or the refusal, and a blank line
 // at its end.
-use crate::codes::SL_TYPE;
 use crate::field_rows::put_fields;
 use crate::line::Label;
 use crate::numbers::{put_number, put_numbers};
@@ -19,9 +18,9 @@ const RATING: Label = Label {
 };
 
 // The sheet and the rating of a case that is not refused.
-fn put_rated<const N: usize>(out: &mut ArrayString<N>, r: Rated, armour: bool) -> fmt::Result {
+fn put_rated<const N: usize>(out: &mut ArrayString<N>, r: Rated, arrangement: u32) -> fmt::Result {
     out.write_str("SHEET\n")?;
-    put_numbers(out, r.sheet, armour)?;
+    put_numbers(out, r.sheet, arrangement)?;
     put_number(out, &RATING, u64::from(r.rating))
 }
 
@@ -33,7 +32,7 @@ pub fn put_sheet<const N: usize>(
 ) -> fmt::Result {
     put_fields(out, x, rated.is_err())?;
     match rated {
-        Ok(r) => put_rated(out, r, x[ARRANGEMENT] == SL_TYPE)?,
+        Ok(r) => put_rated(out, r, x[ARRANGEMENT])?,
         Err(refusal) => put_refusal(out, refusal)?,
     }
     out.write_str("\n")

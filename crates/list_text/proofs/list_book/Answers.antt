@@ -2,8 +2,8 @@
 -- leaves room for its lines. Assumes nothing.
 use Rattle.std.proofs.Common.{ap, arith, eqb, false, length, refl, rules, subst, sym, List, Ok, Err, ℕ}
 use Rattle.std.proofs.Common.{◌++◌, ◌∙◌, ◌≡◌}
-use Rattle.book.specs.declared.accept.Accepted.{Accepted}
 use Rattle.book.specs.Answers.{acceptance_of}
+use Rattle.book_bytes.specs.declared.trailer.Description.{Description}
 use Rattle.book_bytes.specs.declared.refusal.Refusal.{Refusal}
 use Rattle.book_bytes.specs.declared.refusal.Refusal.TheVariants.{Length, Mark, Trailer, Disagrees, Space, Full, Index}
 use Rattle.book_bytes.specs.Refusal.{named_by, number_of}
@@ -24,11 +24,11 @@ some_number Full = refl
 some_number Index = refl
 
 module _ (b : List ℕ) (used : ℕ) where
-  counted : {a : Accepted} → acceptance_of (Ok a) ≡ accept_of b used → Counted rbk1 b (acceptance_of (Ok a))
+  counted : {a : Description} → acceptance_of (Ok a) ≡ accept_of b used → Counted rbk1 b (acceptance_of (Ok a))
   counted is = subst (Counted rbk1 b) (sym is) (count_within rbk1 b used)
 
-  of_book : (a : Accepted) → acceptance_of (Ok a) ≡ accept_of b used →
-      book_line a.count ++ record_lines rbk1 b a.note a.count ≡ listing_of b used
+  of_book : (a : Description) → acceptance_of (Ok a) ≡ accept_of b used →
+      book_line a.count ++ record_lines rbk1 b a.first a.count ≡ listing_of b used
   unfolding listing_of listing_for
   of_book a is = ap (listing_for rbk1 b) is
 
@@ -45,7 +45,7 @@ pub returns-in-Ok : goal.returns-in-Ok
 unfolding book_line
 returns-in-Ok c =
     let a = c.in-Ok.accepted in
-    let lines = record_lines rbk1 c.args.book.now a.note a.count in
+    let lines = record_lines rbk1 c.args.book.now a.first a.count in
     let headed : c.put_line.new.out.bytes ≡ book_line a.count =
     c.put_line.ensures.text ∙ ap (λ (t : List ℕ). t ++ book_line a.count) c.new-out.ensures
     in

@@ -3,7 +3,7 @@ use Rattle.std.proofs.Common.{List, ap, eq-eqb, length, ne_eqb, sym, ℕ, ◌∙
 use Rattle.fields.specs.Fields.{width}
 use Rattle.book_laws.specs.Book.{append_of}
 use Rattle.sheafdawn.specs.Calls.{append_call, written_call}
-use Rattle.sheafdawn.proofs.Outs.{not_written, written}
+use Rattle.sheafdawn.proofs.Outs.{written}
 use Rattle.sheafdawn.proofs.sheafdawn_append.Goals as goal
 
 through : (b : List ℕ) (used : ℕ) (x out : List ℕ) → length x ≡ width → written_call b out (append_of b used x) ≡ append_call b used x out
@@ -18,13 +18,8 @@ pub returns-then-out-ne1 : goal.returns-then-out-ne1
 unfolding append_call written_call
 returns-then-out-ne1 c = simp (eq-eqb _ _ c.in-Some.ensures.cases.long, ne_eqb _ _ c.if-out-ne1.true)
 
-pub returns-in-Ok : goal.returns-in-Ok
-returns-in-Ok c =
+pub returns : goal.returns
+returns c =
     let whole = c.in-Some.ensures.cases in
-    written _ _ _ c.if-out-ne1.false _ (c.in-Ok.ensures ∙ ap (append_of _ _) whole.same) ∙ through _ _ _ c.args.out.now whole.long
-
-pub returns-in-Err : goal.returns-in-Err
-returns-in-Err c =
-    let whole = c.in-Some.ensures.cases in
-    not_written _ _ _ c.if-out-ne1.false _ _ c.from.ensures (c.in-Err.ensures ∙ ap (append_of _ _) whole.same)
-    ∙ through _ _ _ c.args.out.now whole.long
+    let done = c.append.ensures ∙ ap (append_of _ _) whole.same in
+    written _ _ _ _ c.if-out-ne1.false c.put_used.ensures.number c.put_used.ensures.used done ∙ through _ _ _ c.args.out.now whole.long

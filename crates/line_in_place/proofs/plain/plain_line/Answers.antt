@@ -80,5 +80,6 @@ bounds-s-to c = end_inside c.loop-field.invariant c.in_ok-last.ensures _ c.past_
 pub returns : goal.returns
 unfolding line_of read_line
 returns c =
-    let line = done c.loop-field.invariant c.in_ok-last.ensures _ c.past_return-to.ensures c.loop-field-test.false (lit≤ tt) (omega arith) in
+    let past_return = c.past_return-to.ensures in
+    let line = done c.loop-field.invariant c.in_ok-last.ensures _ past_return c.loop-field-test.false (lit≤ tt) (omega arith) in
     stands_whole _ _ _ line.end _ line.inside (sym line.says)

@@ -1,4 +1,4 @@
-// The functions of `wide` under C's calling convention, for programs in other languages.
+// The functions of `wide` under C's calling convention, for programs in other languages. C has no generics, so each direction has its own.
 // Nothing here tests a `requires`: the caller does, before each call, as twin/measure/wide.rs does.
 #![tactic(auto)]
 

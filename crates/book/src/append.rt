@@ -24,6 +24,7 @@ pub fn append(buffer: &mut [u8], used: usize, x: Case) -> Result<usize, Refusal>
     let at = used - TRAILER_LENGTH;
     let end = at + RECORD_LENGTH;
     put(buffer, at, &Record::of_case(x).to_bytes());
+    // as: the count was tested above
     put(buffer, end, &trailer_of(book.count as u32 + 1));
     Ok(end + TRAILER_LENGTH)
 }

@@ -5,6 +5,7 @@ ghost use Rattle.splice.specs.Splice.{splice};
 
 use super::part::put;
 
+// A place beside the bytes: places are those of the layout.
 pub(crate) fn word_at(bytes: &[u8], at: usize) -> u32
     requires { at + 4 ≤ length bytes.now }
     ensures { result ≡ word_at bytes.now at }

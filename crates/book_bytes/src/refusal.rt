@@ -16,6 +16,7 @@ pub enum Refusal {
     Index,
 }
 
+// By a match: `Disagrees` has a field, so there is no discriminant.
 impl From<Refusal> for u32 {
     ghost from_gives = { λ refusal number. number ≡ number_of refusal };
 

@@ -42,6 +42,7 @@ pub fn describe_book(buffer: &[u8], used: usize) -> Result<Description, Refusal>
     if !trailer.starts_with(&MARK) {
         return Err(Refusal::Mark);
     }
+    // as: std has no From between words and usize
     let count = word_at(trailer, COUNT_AT) as usize;
     let distance = word_at(trailer, DISTANCE_AT) as usize;
     let length = word_at(trailer, LENGTH_AT) as usize;
@@ -62,6 +63,7 @@ pub fn trailer_of(count: u32) -> [u8; TRAILER_LENGTH]
     let mut trailer = [0; TRAILER_LENGTH];
     put(&mut trailer, 0, &MARK);
     put_word(&mut trailer, COUNT_AT, count);
+    // as: the length of a record fits a word
     put_word(&mut trailer, DISTANCE_AT, RECORD_LENGTH as u32 * count);
     put_word(&mut trailer, LENGTH_AT, RECORD_LENGTH as u32);
     trailer

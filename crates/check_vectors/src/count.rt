@@ -6,7 +6,7 @@ pub(crate) struct Count {
 }
 
 impl Count {
-    // One more comparison.
+    // One more comparison. `is_right` is what was found, a value and no switch.
     pub(crate) fn add(&mut self, is_right: bool) {
         self.made = self.made.saturating_add(1);
         self.failed = self.failed.saturating_add(u64::from(!is_right));

@@ -34,7 +34,8 @@ pub enum NotKept {
     Refused(Refusal),
 }
 
-// Appends the case that a line says to a book, and answers the used length. A line that is passed
+// Appends the case that a line says to a book, with the used length beside it as `append` takes it, and
+// answers the new one. A line that is passed
 // over or cannot be read changes nothing.
 pub fn keep_said(buffer: &mut [u8], used: usize, said: Said) -> Result<usize, NotKept>
     ensures { kept_of result used buffer.new ≡ keep_for said buffer.old used }

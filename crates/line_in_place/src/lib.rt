@@ -13,6 +13,7 @@ use plain::plain_line;
 use text::gather::line_feed;
 use text::line::{Said, read_line};
 
+// (A type of its own, as number.rt of `text` says of its like.)
 // A line that stands whole in a chunk: the place of its line feed, and what it says.
 #[derive(Clone, Copy)]
 pub struct Line {

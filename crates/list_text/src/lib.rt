@@ -39,6 +39,7 @@ fn put_numbers<const N: usize>(out: &mut ArrayString<N>, number: u64, answer: u6
     out.push('\n');
 }
 
+// (`as` here: std has no From between usize and u64, and no bit is lost.)
 // The lines of the first `count` records, of which the first stands at `first`. `first` and `count`
 // beside the buffer: a Description keeps no buffer, since append writes in it.
 // Not `(1..=u64::MAX).zip(..)`: its proof needs laws of how many numbers a range has left, and

@@ -96,6 +96,7 @@ impl SoundCase {
     pub(crate) fn rise(&self) -> u64
         ensures { result ≡ rise_of self.now.x }
     {
+        // as: it is not below zero
         difference(self.x[CONDUCTOR_TEMPERATURE], self.x[AMBIENT_TEMPERATURE]) as u64
     }
 

@@ -26,7 +26,8 @@ pub(crate) fn within(low: u32, high: u32, n: u32) -> bool
     (low..=high).contains(&n)
 }
 
-// A temperature from low to high, likewise.
+// A temperature from low to high, likewise; and not one generic function with the other, since the definitions are two, on words and on
+// whole numbers.
 pub(crate) fn within_signed(low: i64, high: i64, theta: u32) -> bool
     ensures { result ≡ Within.within_z low high (to_z w32 theta) }
 {
@@ -91,7 +92,7 @@ fn thermal_limits(x: Case) -> bool
         & within(10000, 20000000, x[T4])
 }
 
-// With what the arrangement answered.
+// `its` is what the arrangement answered, a value and no switch.
 #[tactic(auto, unfolding(crate::specs::FieldRefusals::limit_refused))]
 fn limit_refused(x: Case, its: bool) -> bool
     requires { its ≡ (own x).limits x }

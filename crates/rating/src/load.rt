@@ -45,6 +45,7 @@ impl FitCase {
         if MOST_CURRENT < i {
             return Err(Refusal::Current);
         }
+        // as: i was tested above
         Ok(Rated {
             rating: i as u32,
             sheet: [

@@ -10,7 +10,7 @@ use fields::Case;
 // How many numbers the sheet has.
 pub const SHEET: usize = 13;
 
-// The rating in mA, and the sheet: R', Rs, RA, B, ys, yp, R, X, S, W, Wd, dd, E.
+// The rating in mA, and the sheet: R', Rs, RA, B, ys, yp, R, X, S, W, Wd, dd, E, in the order in which C and the printed lines have them.
 #[derive(Clone, Copy, Debug, PartialEq, Eq)]
 pub struct Rated {
     pub rating: u32,

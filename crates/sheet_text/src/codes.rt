@@ -48,6 +48,7 @@ pub const METALS: [&str; 7] = [
 pub fn words_of(words: &[&'static str], code: u32) -> &'static str
     ensures { length words.now ≤ code → result.now ≡ [] }
 {
+    // as: std has no From between words and usize
     match words.get(code as usize) {
         Some(word) => word,
         None => "",

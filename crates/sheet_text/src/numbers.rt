@@ -8,6 +8,7 @@ use rating::rate::SHEET;
 use std::fmt;
 
 // A row of the sheet, and the arrangements that have it: only the SL type has armour.
+// Not a `Field`: a number has no form, and its column another width.
 struct Number {
     label: Label,
     arrangements: &'static [u32],

@@ -8,6 +8,7 @@ use wide::ratio::mul_div;
 use wide::rounding::Up;
 use wide::trillion::{T, mul_div_trillion};
 
+// One quotient with factors of its own, as `axis_ratio` is.
 pub fn spacing_ratio(dc: u64, s: u64) -> u64
     requires { SpacingRanges dc s }
     ensures { result ≡ spacing_ratio dc s }

@@ -17,6 +17,7 @@ fn temperature_factor(alpha: u32, theta: u32) -> u64
     requires { FactorRanges alpha (to_z w32 theta) }
     ensures { IsFactor alpha (to_z w32 theta) result }
 {
+    // as: it is not below zero
     (10000000 + i64::from(alpha) * (signed(theta) - 2000)) as u64
 }
 

@@ -39,6 +39,7 @@ fn eddy_factor(b: u64, rs: u64) -> u64
     mul_div::<Up>(m2, T, T + m2)
 }
 
+// One quotient with factors of its own, as `axis_ratio` is.
 fn eddy_spacing(d: u64, s: u64) -> u64
     requires { SpacingRanges d s }
     ensures { result ≡ eddy_spacing d s }

@@ -42,9 +42,11 @@ fn factors_of(code: u32) -> Factors
     requires { In 1 most_conductor_code code }
     ensures { FactorsOf code result }
 {
+    // as: std has no From between words and usize
     all_factors()[(code - 1) as usize]
 }
 
+// Two functions, since the definitions are two. That a code is in range stays a clause: it would have to be shown anew at each call.
 pub fn ks(code: u32) -> u32
     requires { In 1 most_conductor_code code }
     ensures { result ≡ Tables.ks code }

@@ -13,7 +13,7 @@ use memchr::memchr;
 // so.
 pub const ROOM: usize = LONGEST + 1;
 
-// The place of the first line feed from `from` on, or the end.
+// The place of the first line feed from `from` on, or the end: a place, as in words.rt.
 pub fn line_feed(chunk: &[u8], from: usize) -> usize
     ensures { result ≡ run_end is_in_line chunk.now from }
 {

@@ -21,7 +21,7 @@ pub enum Said {
     Unreadable,
 }
 
-// Where a word ends, and what it says.
+// Where a word ends, and what it says: a type of its own, as number.rt says of its like.
 #[derive(Clone, Copy)]
 struct Word {
     to: usize,

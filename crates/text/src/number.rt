@@ -99,6 +99,7 @@ pub fn number_in(s: &[u8], from: usize, limit: u32) -> Option<Number>
     }
     Some(Number {
         to,
+        // as: the limit is a word
         value: value as u32,
     })
 }

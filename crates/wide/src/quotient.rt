@@ -7,6 +7,7 @@ use super::division::{Divided, divide};
 use super::limbs::{Wide, sum};
 use super::rounding::Rounding;
 
+// That c is not 0 stays a clause, as in rounding.rt.
 fn divided(w: Wide, c: u64) -> Divided<Wide>
     requires { 0 < c }
     ensures { Split (value w) c (value result.quotient) result.rest }

@@ -48,9 +48,3 @@ loop-i-preserved g c =
           ∙ ap (λ (t : List ℕ). a.out.now.bytes ++ t) (one_more a.book.now a.first i),
       omega (arith, c.put_numbers.ensures.within),
     )
-
-pub returns-clause-text : goal.returns-clause-text
-returns-clause-text g c =
-    let a = c.args in
-    let all : c.loop-i.i ≡ a.count = omega (arith, c.records-stored-items.ensures.count_is) in
-    c.loop-i.invariant.0 ∙ ap (λ (n : ℕ). a.out.now.bytes ++ record_lines rbk1 a.book.now a.first n) all

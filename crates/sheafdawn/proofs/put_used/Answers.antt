@@ -3,9 +3,6 @@ use Rattle.book_laws.specs.Start.{unwritten}
 use Rattle.sheafdawn.proofs.Outs.{one_place}
 use Rattle.sheafdawn.proofs.put_used.Goals as goal
 
-pub returns-in-Ok-clause-used : goal.returns-in-Ok-clause-used
-returns-in-Ok-clause-used c = rw (c.in-Ok.is) (one_place _ _ c.requires)
-
 pub returns-in-Err-clause-number : goal.returns-in-Err-clause-number
 unfolding unwritten
 returns-in-Err-clause-number c = rw (c.in-Err.is) c.from.ensures

@@ -47,9 +47,6 @@ b_low_is :
     (c : After-reactance-b_low) → c.reactance-b_low.result ≡ reactance_low (Field.frequency c.args.fit.now.case.x)
 b_low_is c = c.reactance-b_low.ensures ∙ ap reactance_low c.from-3.ensures
 
-pub reactance-b_low-requires : goal.reactance-b_low-requires
-reactance-b_low-requires c = omega (arith, c.from-3.ensures, c.args.fit.now.fit.sound.frequency)
-
 pub sheath_reactance-requires : goal.sheath_reactance-requires
 sheath_reactance-requires c =
     let fit = c.args.fit.now.fit in

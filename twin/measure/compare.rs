@@ -11,10 +11,11 @@ mod sheafdawn;
 use std::process::ExitCode;
 use twin::book;
 use twin::dice::Dice;
-use twin::drawn_books::{drawn_book, sound_book};
+use twin::drawn_books::drawn_book;
 use twin::drawn_cases::{drawn_case, mixed_case};
 use twin::lines::case_line;
-use twin::rating::{rate, Words};
+use twin::rating::{rate, Words, WIDTH};
+use twin::sound_books::{sound_book_of, trailer};
 use twin::standard::Cable;
 
 /// How many items pass between two lines of progress.
@@ -120,16 +121,14 @@ fn book_differs(dice: &mut Dice, number: usize) -> Option<String> {
 }
 
 /// A book of the greatest count, appended to, and a book of one record more.
-fn greatest_differ() -> Option<String> {
-    let cases = vec![[0; 26]; book::GREATEST_COUNT];
-    let full = sound_book(&[], &cases);
+fn greatest_differ(layout: book::Layout) -> Option<String> {
+    let cases = vec![[0; WIDTH]; book::GREATEST_COUNT];
+    let full = sound_book_of(layout, &[], &cases);
     let used = full.len();
     let roomy = [&full[..], &[0; book::RECORD_LENGTH]].concat();
-    let mut larger = [&full[..book::RECORD_LENGTH], &full[..]].concat();
-    let trailer = larger.len() - book::TRAILER_LENGTH;
-    let count = book::GREATEST_COUNT + 1;
-    book::put_word(&mut larger, trailer + 4, count as u32);
-    book::put_word(&mut larger, trailer + 8, (book::RECORD_LENGTH * count) as u32);
+    let records = &full[..used - book::TRAILER_LENGTH];
+    let more = trailer(layout, book::GREATEST_COUNT + 1);
+    let larger = [&full[..layout.record_length()], records, &more].concat();
     accept_differs(&full, used)
         .or_else(|| append_differs(&full, used, &cases[0]))
         .or_else(|| append_differs(&roomy, used, &cases[0]))
@@ -163,7 +162,9 @@ fn main() -> ExitCode {
         case_or_float_differs(&drawn_case(&mut dice, number), &mut largest)
     });
     println!("compare: f64 is at most {largest} of 1 mA and 10^-8 of the rating together off");
-    let same_greatest = run("pair of books of the greatest count", 1, |_| greatest_differ());
+    let same_greatest = run("pairs of books of the greatest count", 2, |number| {
+        greatest_differ(book::LAYOUTS[number])
+    });
     let mut dice = Dice(u64::from(seed) + 1);
     let same_books = run("books", books as usize, |number| book_differs(&mut dice, number));
     if same_cases && same_greatest && same_books {

@@ -13,9 +13,9 @@ use std::hint::black_box;
 use std::process::ExitCode;
 use twin::book;
 use twin::dice::Dice;
-use twin::drawn_books::sound_book;
 use twin::drawn_cases::rated_case;
 use twin::rating::{rate, Words};
+use twin::sound_books::sound_book;
 
 const CASES: usize = 500;
 

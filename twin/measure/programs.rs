@@ -24,11 +24,11 @@ use std::time::Duration;
 use timing::{keep, median, seconds};
 use twin::book;
 use twin::dice::Dice;
-use twin::drawn_books::sound_book;
 use twin::drawn_cases::rated_case;
 use twin::lines::{answer_line, case_line};
 use twin::listing::listing;
 use twin::rating::Words;
+use twin::sound_books::sound_book;
 
 const RATE: &str = "crates/rate/out/rate";
 const LIST: &str = "crates/list/out/list";

@@ -2,19 +2,41 @@
 // lends together with the length used. Each operation tries its refusals
 // before it writes anything, so a refused one changes no byte.
 
-use crate::rating::{rate, Words};
+use crate::rating::{rate, Words, OLDER_WIDTH, WIDTH};
 
-pub const MARK: [u8; 4] = *b"RBK1";
 pub const TRAILER_LENGTH: usize = 16;
-pub const RECORD_LENGTH: usize = 112;
 pub const GREATEST_COUNT: usize = 100_000;
 
-/// A record is the 26 inputs of its case, then the answer and the rating.
-pub type Record = [u32; 28];
+/// What a book's mark says of its records: each is the first inputs of its case,
+/// then the answer and the rating.
+#[derive(Clone, Copy, Debug, PartialEq, Eq)]
+pub struct Layout {
+    pub mark: [u8; 4],
+    pub inputs: usize,
+}
 
-pub const INPUTS: usize = 26;
-pub const ANSWER: usize = 26;
-pub const RATING: usize = 27;
+impl Layout {
+    pub const fn record_length(&self) -> usize {
+        4 * (self.inputs + 2)
+    }
+}
+
+/// Of books that are read and accepted, but no longer written.
+pub const RBK1: Layout = Layout { mark: *b"RBK1", inputs: OLDER_WIDTH };
+/// Of those that start and append write.
+pub const RBK2: Layout = Layout { mark: *b"RBK2", inputs: WIDTH };
+
+pub const LAYOUTS: [Layout; 2] = [RBK1, RBK2];
+
+/// How much longer a book becomes by a record.
+pub const RECORD_LENGTH: usize = RBK2.record_length();
+
+/// What read answers of a record: the inputs of its case, those that its book has
+/// no room for being 0, then the answer and the rating.
+pub type Record = [u32; WIDTH + 2];
+
+pub const ANSWER: usize = WIDTH;
+pub const RATING: usize = WIDTH + 1;
 
 /// The refusals of a book, in the order of their numbers.
 #[derive(Clone, Copy, Debug, PartialEq, Eq)]
@@ -60,31 +82,31 @@ pub fn put_word(bytes: &mut [u8], at: usize, word: u32) {
     bytes[at..at + 4].copy_from_slice(&word.to_be_bytes());
 }
 
-/// The parts of a book, or refusal 20, 21 or 22, which append, read and accept
-/// try before their own.
-fn parts(buffer: &[u8], used: usize) -> Result<Parts, Refusal> {
+/// The layout of a book, of those that an operation takes, and its parts, or
+/// refusal 20, 21 or 22, which append, read and accept try before their own.
+fn parts(buffer: &[u8], used: usize, taken: &[Layout]) -> Result<(Layout, Parts), Refusal> {
     let book = buffer.get(..used).ok_or(Refusal::Length)?;
     let before = used.checked_sub(TRAILER_LENGTH).ok_or(Refusal::Mark)?;
     let trailer = &book[before..];
-    if trailer[..4] != MARK {
-        return Err(Refusal::Mark);
-    }
-    // The count is tried first: once it is in its limit, 112 times it fits a word.
+    let marked = |layout: &&Layout| trailer[..4] == layout.mark;
+    let layout = *taken.iter().find(marked).ok_or(Refusal::Mark)?;
+    // The count is tried first: in its limit, so many records' length fits a word.
     let count = word_at(trailer, 4) as usize;
     if count > GREATEST_COUNT {
         return Err(Refusal::Trailer);
     }
-    let records = RECORD_LENGTH * count;
-    if word_at(trailer, 8) as usize != records || word_at(trailer, 12) as usize != RECORD_LENGTH {
+    let length = layout.record_length();
+    let records = length * count;
+    if word_at(trailer, 8) as usize != records || word_at(trailer, 12) as usize != length {
         return Err(Refusal::Trailer);
     }
     let note = before.checked_sub(records).ok_or(Refusal::Trailer)?;
-    Ok(Parts { count, note })
+    Ok((layout, Parts { count, note }))
 }
 
 /// Writes the trailer of a book of `count` records, at most 100000.
 fn put_trailer(buffer: &mut [u8], at: usize, count: usize) {
-    buffer[at..at + 4].copy_from_slice(&MARK);
+    buffer[at..at + 4].copy_from_slice(&RBK2.mark);
     put_word(buffer, at + 4, count as u32);
     put_word(buffer, at + 8, (RECORD_LENGTH * count) as u32);
     put_word(buffer, at + 12, RECORD_LENGTH as u32);
@@ -93,8 +115,8 @@ fn put_trailer(buffer: &mut [u8], at: usize, count: usize) {
 /// The record that a case gets.
 fn record_of(case: &Words) -> Record {
     let rated = rate(case);
-    let mut record = [0; 28];
-    record[..INPUTS].copy_from_slice(case);
+    let mut record = [0; WIDTH + 2];
+    record[..WIDTH].copy_from_slice(case);
     record[ANSWER] = rated.answer;
     record[RATING] = rated.rating;
     record
@@ -106,9 +128,15 @@ pub fn case_of(record: &Record) -> Words {
 }
 
 /// The record of an index below the count, as it is written.
-fn record_at(buffer: &[u8], parts: Parts, index: usize) -> Record {
-    let first_byte = parts.note + RECORD_LENGTH * index;
-    std::array::from_fn(|field| word_at(buffer, first_byte + 4 * field))
+fn record_at(buffer: &[u8], layout: Layout, parts: Parts, index: usize) -> Record {
+    let first_byte = parts.note + layout.record_length() * index;
+    let stored = &buffer[first_byte..first_byte + layout.record_length()];
+    let fields = (0..layout.inputs).chain([ANSWER, RATING]);
+    let mut record = [0; WIDTH + 2];
+    for (field, bytes) in fields.zip(stored.chunks_exact(4)) {
+        record[field] = word_at(bytes, 0);
+    }
+    record
 }
 
 /// Begins a book after a note whose bytes already stand at the front of the
@@ -124,9 +152,10 @@ pub fn start(buffer: &mut [u8], note: usize) -> Result<usize, Refusal> {
 }
 
 /// Rates a case and writes its record, refused case or not, where the trailer
-/// was, and the new trailer after it. Answers the new used length.
+/// was, and the new trailer after it. Only a book of the mark that is written can
+/// be appended to. Answers the new used length.
 pub fn append(buffer: &mut [u8], used: usize, case: &Words) -> Result<usize, Refusal> {
-    let count = parts(buffer, used)?.count;
+    let (_, Parts { count, .. }) = parts(buffer, used, &[RBK2])?;
     if count == GREATEST_COUNT {
         return Err(Refusal::Full);
     }
@@ -143,19 +172,19 @@ pub fn append(buffer: &mut [u8], used: usize, case: &Words) -> Result<usize, Ref
 
 /// The record of an index from 0, as it is written: no rating is worked out.
 pub fn read(buffer: &[u8], used: usize, index: usize) -> Result<Record, Refusal> {
-    let parts = parts(buffer, used)?;
+    let (layout, parts) = parts(buffer, used, &LAYOUTS)?;
     if index >= parts.count {
         return Err(Refusal::Index);
     }
-    Ok(record_at(buffer, parts, index))
+    Ok(record_at(buffer, layout, parts, index))
 }
 
 /// Rates every record's case again and answers the parts when all agree, or else
 /// the first record that does not.
 pub fn accept(buffer: &[u8], used: usize) -> Result<Parts, Refusal> {
-    let parts = parts(buffer, used)?;
+    let (layout, parts) = parts(buffer, used, &LAYOUTS)?;
     for index in 0..parts.count {
-        let record = record_at(buffer, parts, index);
+        let record = record_at(buffer, layout, parts, index);
         if record != record_of(&case_of(&record)) {
             return Err(Refusal::Disagrees(index + 1));
         }

@@ -1,7 +1,7 @@
 // The stages put together for one case, without any refusal: so each refusal's
 // test can be asked by itself, also where another holds too.
 
-use crate::rating::{armoured, three_cores, value, Words};
+use crate::rating::{armoured, loss_counts, three_cores, value, Words};
 use crate::stages::{self, Insulation, Thermal};
 use crate::tables;
 
@@ -130,15 +130,23 @@ impl Cable<'_> {
         stages::armour_loss_screened(bare, stages::circulating_ratio_squared_low(v))
     }
 
-    /// Wd and dd.
-    pub fn dielectric(&self) -> (u128, u128) {
+    /// Wd, which is 0 where the loss does not count.
+    fn dielectric_loss(&self) -> u128 {
+        if !loss_counts(self.words) {
+            return 0;
+        }
         let insulation = Insulation {
             permittivity: self.field(11),
             volts: self.field(10),
             loss_factor: self.field(12),
             log_low: stages::log_low(self.field(9), self.field(8)),
         };
-        let wd = stages::dielectric_loss(&insulation, self.b_high);
+        stages::dielectric_loss(&insulation, self.b_high)
+    }
+
+    /// Wd and dd.
+    pub fn dielectric(&self) -> (u128, u128) {
+        let wd = self.dielectric_loss();
         (wd, stages::dielectric_rise(wd, &self.thermal()))
     }
 

@@ -3,14 +3,14 @@
 // ones at the edge of a limit or of a refusal.
 
 use crate::dice::Dice;
-use crate::rating::{holds, limits, rate, Rated, Words};
+use crate::rating::{holds, limits, rate, Rated, Words, WIDTH};
 use crate::sample_cables::with;
 use crate::stages::{temperature_factor, LARGEST_RS_OF_SUM};
 use crate::tables::metal_coefficient;
 use crate::turning::first;
 
-/// The 26 fields by their values, before they are written as words.
-type Values = [i64; 26];
+/// The fields by their values, before they are written as words.
+type Values = [i64; WIDTH];
 
 /// Puts an SL cable's armour, past every refusal of it.
 fn put_armour(case: &mut Values, dice: &mut Dice) {
@@ -63,6 +63,20 @@ fn put_three_cores(case: &mut Values, dice: &mut Dice) {
     }
 }
 
+/// A voltage from which the loss counts: most often 0, from which it always does,
+/// else U0 itself, the next on either side of it, the highest, or any.
+fn loss_voltage(u0: i64, dice: &mut Dice) -> i64 {
+    let (low, high) = limits(26);
+    match dice.roll() % 8 {
+        0 => u0,
+        1 => (u0 + 1).min(high),
+        2 => (u0 - 1).max(low),
+        3 => high,
+        4 => dice.between(low, high),
+        _ => 0,
+    }
+}
+
 /// A case of an arrangement, within every limit and past refusals 1 to 7.
 fn sound_case_of(arrangement: i64, dice: &mut Dice) -> Words {
     let theta_c = dice.between(4000, 25000);
@@ -96,7 +110,12 @@ fn sound_case_of(arrangement: i64, dice: &mut Dice) -> Words {
         dice.between(0, 10_000_000),
         dice.between(0, 10_000_000),
         dice.between(10000, 20_000_000),
+        0,
+        0,
+        0,
+        0,
     ];
+    case[26] = loss_voltage(case[10], dice);
     put_three_cores(&mut case, dice);
     case.map(|value| value as u32)
 }
@@ -110,7 +129,7 @@ pub fn sound_case(dice: &mut Dice) -> Words {
 /// Replaces some fields, most of them by words far outside their limits.
 pub fn disturb(case: &mut Words, times: usize, dice: &mut Dice) {
     for _ in 0..times {
-        let field = (dice.roll() % 26) as usize;
+        let field = dice.roll() as usize % WIDTH;
         case[field] = match dice.roll() % 4 {
             0 => u32::MAX,
             1 => 1 << 31,
@@ -129,13 +148,13 @@ pub fn mixed_case(dice: &mut Dice) -> Words {
         // With the lowest thermal resistances too, some currents are refused.
         1 => {
             case[10] = 0;
-            case[22..].copy_from_slice(&[1000, 0, 0, 10000]);
+            case[22..26].copy_from_slice(&[1000, 0, 0, 10000]);
         }
         2 => disturb(&mut case, 1, dice),
         // A field of another sound case is in its own limits but may not go
         // with the rest: refusals 3 to 7.
         3 => {
-            let field = (dice.roll() % 26) as usize;
+            let field = dice.roll() as usize % WIDTH;
             case[field] = sound_case(dice)[field];
         }
         _ => {}
@@ -150,9 +169,10 @@ fn first_rated(dice: &mut Dice, sound: impl Fn(&mut Dice) -> Words) -> (Words, R
     loop {
         let mut case = sound(dice);
         case[10] >>= dice.roll() % 20;
+        case[26] = loss_voltage(case[10].into(), dice) as u32;
         // The lowest thermal resistances make the largest currents.
         if dice.roll().is_multiple_of(4) {
-            case[22..].copy_from_slice(&[1000, 0, 0, 10000]);
+            case[22..26].copy_from_slice(&[1000, 0, 0, 10000]);
         }
         let rated = rate(&case);
         if rated.answer == 0 {
@@ -172,7 +192,8 @@ pub fn rated_case_of(arrangement: i64, dice: &mut Dice) -> (Words, Rated) {
 }
 
 /// A sound case with one field at one of its limits or next to it, on either
-/// side; the arrangement and the conductor code have limits too.
+/// side; the arrangement and the conductor code have limits too, and a field
+/// without a meaning has 0 for both.
 pub fn near_limit(dice: &mut Dice) -> Words {
     let mut case = sound_case(dice);
     let field = dice.roll() as usize % case.len();
@@ -225,7 +246,7 @@ pub fn drawn_case(dice: &mut Dice, number: usize) -> Words {
         4 => at_turn(dice),
         _ => {
             let mut case = sound_case(dice);
-            disturb(&mut case, 1 + number / 6 % 26, dice);
+            disturb(&mut case, 1 + number / 6 % WIDTH, dice);
             case
         }
     }

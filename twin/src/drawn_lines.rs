@@ -5,16 +5,19 @@
 
 use crate::dice::Dice;
 use crate::drawn_cases::{drawn_case, mixed_case};
-use crate::lines::{case_line, LONGEST_LINE};
+use crate::lines::{case_line, older_line, LONGEST_LINE};
+use crate::rating::{OLDER_WIDTH, WIDTH};
 
 type Kind = fn(&mut Dice) -> Vec<u8>;
 
 /// How many of the kinds, the first ones, are cases.
-pub const CASES: usize = 9;
+pub const CASES: usize = 11;
 
-pub const KINDS: [Kind; 20] = [
+pub const KINDS: [Kind; 24] = [
     plain,
     any_words,
+    older,
+    older_spread,
     signed,
     tabs,
     carriage_return,
@@ -25,6 +28,8 @@ pub const KINDS: [Kind; 20] = [
     nothing,
     blanks,
     remark,
+    under_an_older_case,
+    over_an_older_case,
     one_number_less,
     one_number_more,
     number_too_large,
@@ -69,7 +74,7 @@ fn plain(dice: &mut Dice) -> Vec<u8> {
 }
 
 fn any_words(dice: &mut Dice) -> Vec<u8> {
-    let words = [(); 26].map(|()| dice.between(0, u32::MAX.into()) as u32);
+    let words = [(); WIDTH].map(|()| dice.between(0, u32::MAX.into()) as u32);
     case_line(&words).into_bytes()
 }
 
@@ -89,11 +94,26 @@ fn signed_with_tabs_and_return(dice: &mut Dice) -> Vec<u8> {
     (signed_words(dice).join("\t") + "\r").into_bytes()
 }
 
-/// One blank or more before, between and after the numbers.
+/// The numbers of an older case.
+fn older(dice: &mut Dice) -> Vec<u8> {
+    older_line(&mixed_case(dice)).into_bytes()
+}
+
+fn older_spread(dice: &mut Dice) -> Vec<u8> {
+    let words = signed_words(dice);
+    spread_words(dice, &words[..OLDER_WIDTH])
+}
+
 fn spread(dice: &mut Dice) -> Vec<u8> {
+    let words = signed_words(dice);
+    spread_words(dice, &words)
+}
+
+/// One blank or more before, between and after the numbers.
+fn spread_words(dice: &mut Dice, words: &[String]) -> Vec<u8> {
     let mut line = chosen(dice, &["", " ", "\t ", "   "]);
-    for word in signed_words(dice) {
-        line += &word;
+    for word in words {
+        line += word;
         line += &chosen(dice, &[" ", " ", "\t", "  ", " \t "]);
     }
     line += &chosen(dice, &["", "\r"]);
@@ -130,6 +150,17 @@ fn remark(dice: &mut Dice) -> Vec<u8> {
 }
 
 // Lines that cannot be read.
+
+fn under_an_older_case(dice: &mut Dice) -> Vec<u8> {
+    let count = dice.between(1, OLDER_WIDTH as i64 - 1) as usize;
+    unsigned_words(dice)[..count].join(" ").into_bytes()
+}
+
+/// More numbers than an older case has, and fewer than a case.
+fn over_an_older_case(dice: &mut Dice) -> Vec<u8> {
+    let count = dice.between(OLDER_WIDTH as i64 + 1, WIDTH as i64 - 1) as usize;
+    unsigned_words(dice)[..count].join(" ").into_bytes()
+}
 
 fn one_number_less(dice: &mut Dice) -> Vec<u8> {
     unsigned_words(dice)[1..].join(" ").into_bytes()

@@ -9,6 +9,7 @@ mod current;
 mod dielectric;
 mod eddy;
 mod limits;
+mod loss_voltage;
 pub mod pairs;
 mod relations;
 pub mod skin;
@@ -35,12 +36,14 @@ pub fn groups() -> Vec<Group> {
         limits::limits(),
         codes::metals(),
         codes::stray(),
+        loss_voltage::unassigned(),
         relations::geometry(),
         relations::heat(),
         skin::skin(),
         eddy::eddy(),
         common_sheath::formulas(),
         common_sheath::roundings(),
+        loss_voltage::loss_voltage(),
         dielectric::dielectric(),
         current::current(),
         pairs::pairs(),

@@ -6,7 +6,7 @@ use crate::rating::{circulating, Words};
 use crate::stages::{log_high, log_low, LN_2_HIGH, LN_2_LOW, PI_HIGH, PI_LOW, PI_UNIT, T};
 
 /// Fractions that stand for pi, ln 2, the logarithm of 2s/d and that of Di/ds,
-/// as far as each enters the formulas of the case.
+/// as far as each enters the formulas of the case's arrangement.
 #[derive(Debug, PartialEq)]
 pub struct Chosen {
     pub pi: Fraction,

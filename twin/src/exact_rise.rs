@@ -4,7 +4,7 @@
 
 use crate::ends::Chosen;
 use crate::fraction::Fraction;
-use crate::rating::{armoured, three_cores, value, Words};
+use crate::rating::{armoured, loss_counts, three_cores, value, Words};
 use crate::stages;
 use crate::tables;
 
@@ -185,8 +185,12 @@ impl Cable<'_> {
 
     // Stage 9.
 
-    /// Wd = e U0^2 t B/(360 l) in 10^-12 W/m, where l is T times the logarithm.
+    /// Wd = e U0^2 t B/(360 l) in 10^-12 W/m, where l is T times the logarithm; 0
+    /// where the loss does not count.
     fn dielectric_loss(&self) -> Fraction {
+        if !loss_counts(self.words) {
+            return Fraction::whole(0);
+        }
         let leading = self.field(11).times(&self.field(10).squared()).times(&self.field(12));
         let below = Fraction::whole(360 * stages::T).times(&self.chosen.insulation_log);
         leading.times(&self.reactance_unit()).over(&below)

@@ -1,6 +1,6 @@
 // The twin: a second, independent working of the cable rating and the book of
-// document 01 with document 02's request A1, written from the documents alone
-// so that another implementation can be compared with it, number for number.
+// document 01 with document 02's requests A1, A2 and A4, written from the documents
+// alone so that another implementation can be compared with it, number for number.
 
 pub mod big;
 pub mod book;
@@ -20,6 +20,7 @@ pub mod margins;
 pub mod published;
 pub mod rating;
 pub mod sample_cables;
+pub mod sound_books;
 pub mod stages;
 pub mod standard;
 pub mod tables;

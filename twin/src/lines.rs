@@ -1,8 +1,9 @@
-// The line reader of twin-rate: a line of 26 decimal numbers is a case and is
-// answered by one line of 15 numbers; blank lines and comments are passed over;
-// anything else is reported by its line number and the work goes on.
+// The line reader of twin-rate: a line of 30 decimal numbers, or of an older
+// case's 26, is a case and is answered by one line of 15 numbers; blank lines and
+// comments are passed over; anything else is reported by its line number and the
+// work goes on.
 
-use crate::rating::rate;
+use crate::rating::{from_older, rate, Words, OLDER_WIDTH};
 use std::io::{self, BufRead, Write};
 
 /// The longest line read, in bytes, its line feed not counted.
@@ -13,7 +14,7 @@ pub const LONGEST_LINE: usize = 1023;
 pub enum Line {
     Passed,
     Unreadable,
-    Case([u32; 26]),
+    Case(Words),
 }
 
 /// One number: decimal digits, perhaps after a minus sign, in 32 bits.
@@ -40,6 +41,14 @@ fn read_number(word: &[u8]) -> Option<u32> {
     Some(if negative { word.wrapping_neg() } else { word })
 }
 
+/// The case of so many numbers, if that is how many a case has.
+fn case_of(numbers: &[u32]) -> Option<Words> {
+    match <&[u32; OLDER_WIDTH]>::try_from(numbers) {
+        Ok(older) => Some(from_older(older)),
+        Err(_) => numbers.try_into().ok(),
+    }
+}
+
 /// Reads a line that has already lost its line feed.
 pub fn read_line(line: &[u8]) -> Line {
     if line.len() > LONGEST_LINE {
@@ -55,19 +64,24 @@ pub fn read_line(line: &[u8]) -> Line {
         return Line::Passed;
     }
     let numbers: Option<Vec<u32>> = words.into_iter().map(read_number).collect();
-    match numbers.map(<[u32; 26]>::try_from) {
-        Some(Ok(case)) => Line::Case(case),
-        _ => Line::Unreadable,
+    match numbers.and_then(|numbers| case_of(&numbers)) {
+        Some(case) => Line::Case(case),
+        None => Line::Unreadable,
     }
 }
 
 /// A case as the line that read_line reads.
-pub fn case_line(case: &[u32; 26]) -> String {
+pub fn case_line(case: &Words) -> String {
     case.map(|word| word.to_string()).join(" ")
 }
 
+/// The first fields of a case as the line of an older one.
+pub fn older_line(case: &Words) -> String {
+    case[..OLDER_WIDTH].iter().map(u32::to_string).collect::<Vec<_>>().join(" ")
+}
+
 /// The answer, the rating and the sheet, separated by single blanks.
-pub fn answer_line(case: &[u32; 26]) -> String {
+pub fn answer_line(case: &Words) -> String {
     let rated = rate(case);
     let mut text = format!("{} {}", rated.answer, rated.rating);
     for number in rated.sheet {

@@ -1,7 +1,7 @@
 // The 36 cables whose rating IEC 60502-2 prints, from data/ratings.csv: each
 // with its name, the printed amperes and the tolerance the file gives.
 
-use crate::rating::Words;
+use crate::rating::{from_older, Words, OLDER_WIDTH};
 
 const RATINGS: &str = include_str!("../data/ratings.csv");
 
@@ -16,13 +16,14 @@ pub struct Published {
 fn read_row(row: &str) -> Published {
     let (name, numbers) = row[1..].split_once("\",").expect("a quoted name");
     let numbers: Vec<&str> = numbers.trim_end().split(',').collect();
-    let case: Vec<u32> =
+    let older: Vec<u32> =
         numbers[2..].iter().map(|word| word.parse::<i64>().expect("a number") as u32).collect();
+    let older: [u32; OLDER_WIDTH] = older.try_into().expect("an older case's fields");
     Published {
         name: name.to_string(),
         amperes: numbers[0].parse().expect("amperes"),
         tolerance: numbers[1].parse().expect("a tolerance"),
-        case: case.try_into().expect("26 fields"),
+        case: from_older(&older),
     }
 }
 

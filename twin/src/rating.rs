@@ -14,15 +14,25 @@ pub struct Rated {
     pub sheet: [u64; 13],
 }
 
-/// The 26 fields of a case, as they are written.
-pub type Words = [u32; 26];
+/// The number of fields of a case, and that of one as it was before the last
+/// four: these then count as zero.
+pub const WIDTH: usize = 30;
+pub const OLDER_WIDTH: usize = 26;
+
+/// The fields of a case, as they are written.
+pub type Words = [u32; WIDTH];
+
+/// The case of an older one's fields.
+pub fn from_older(older: &[u32; OLDER_WIDTH]) -> Words {
+    std::array::from_fn(|field| older.get(field).copied().unwrap_or(0))
+}
 
 /// The largest z that passes refusal 8, and the largest rating that passes 11.
 pub const SKIN_LIMIT: u128 = 7_840_000_000_000;
 pub const CURRENT_LIMIT: u128 = 5_000_000;
 
-/// Lowest and highest permitted value of fields 2 to 25, in their order.
-const LIMITS: [(i64, i64); 24] = [
+/// Lowest and highest permitted value of fields 2 to 26, in their order.
+const LIMITS: [(i64, i64); 25] = [
     (1000, 6500),
     (4000, 25000),
     (-4000, 6000),
@@ -47,13 +57,16 @@ const LIMITS: [(i64, i64); 24] = [
     (0, 10_000_000),
     (0, 10_000_000),
     (10000, 20_000_000),
+    (0, 300_000),
 ];
 
-/// The limits of any field: those of refusals 1 and 2, and of 3.
+/// The limits of any field: those of refusals 1 and 2, and of 3. A field without a
+/// meaning must be zero, by refusal 4.
 pub fn limits(field: usize) -> (i64, i64) {
     match field {
         0 => (1, 6),
         1 => (1, 8),
+        27..WIDTH => (0, 0),
         _ => LIMITS[field - 2],
     }
 }
@@ -82,12 +95,18 @@ pub fn circulating(case: &Words) -> bool {
     matches!(case[0], 1 | 2 | 5)
 }
 
+/// Whether the dielectric loss counts: from the voltage in field 26 on.
+pub fn loss_counts(case: &Words) -> bool {
+    case[10] >= case[26]
+}
+
 /// Whether the case's arrangement has a field: the armour's are the SL cable's,
-/// and c both three-core cables'.
+/// and c both three-core cables'. The last fields have no meaning in any.
 fn has_field(case: &Words, field: usize) -> bool {
     match field {
         17..=19 | 21 => armoured(case),
         20 => three_cores(case),
+        27.. => false,
         _ => true,
     }
 }
@@ -235,7 +254,7 @@ fn rate_cable(cable: &Cable) -> Result<(u32, [u64; 13]), u32> {
     Ok((current as u32, sheet.map(|number| number as u64)))
 }
 
-/// Rates a case of any 26 words.
+/// Rates a case of any words.
 pub fn rate(case: &Words) -> Rated {
     let result = match early_refusal(case) {
         Some(number) => Err(number),

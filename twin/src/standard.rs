@@ -4,7 +4,7 @@
 
 use std::f64::consts::PI;
 
-/// The same 26 fields as a case, in ohm/m, K m/W, V, Hz, degrees and mm.
+/// The fields of a case that have a meaning, in ohm/m, K m/W, V, Hz, degrees and mm.
 pub struct Cable {
     pub arrangement: u32,
     pub conductor: u32,
@@ -25,6 +25,7 @@ pub struct Cable {
     pub c: f64,
     pub d_armour: f64,
     pub thermal: [f64; 4],
+    pub loss_voltage: f64,
 }
 
 /// Table 1: temperature coefficient at 20 degrees, per K.
@@ -61,7 +62,7 @@ fn at_temperature(nano_ohms: u32, metal: u32, theta: f64) -> f64 {
 }
 
 impl Cable {
-    pub fn from_fields(f: &[u32; 26]) -> Cable {
+    pub fn from_fields(f: &[u32; 30]) -> Cable {
         let mm = |word: u32| f64::from(word) / 100.0;
         let k_m_per_w = |word: u32| f64::from(word) * 1e-6;
         Cable {
@@ -84,6 +85,7 @@ impl Cable {
             c: mm(f[20]),
             d_armour: mm(f[21]),
             thermal: [k_m_per_w(f[22]), k_m_per_w(f[23]), k_m_per_w(f[24]), k_m_per_w(f[25])],
+            loss_voltage: f64::from(f[26]),
         }
     }
 
@@ -181,8 +183,11 @@ impl Cable {
         bare * (1.0 - r / self.rs * self.lambda1_bonded())
     }
 
-    /// 2.2: Wd = omega C U0^2 tan delta.
+    /// 2.2: Wd = omega C U0^2 tan delta, from the voltage of Table 3 on.
     pub fn dielectric_loss(&self) -> f64 {
+        if self.u0 < self.loss_voltage {
+            return 0.0;
+        }
         let capacitance = self.permittivity / (18.0 * (self.di / self.ds).ln()) * 1e-9;
         self.omega() * capacitance * self.u0 * self.u0 * self.tan_delta
     }

@@ -3,9 +3,8 @@ use Rattle.std.specs.Prelude.{Result, Ok, Err, List, ℕ}
 use Rattle.book_bytes.specs.declared.trailer.Description as Code
 use Rattle.book_bytes.specs.declared.record.Record.{Record}
 use Rattle.book_bytes.specs.declared.refusal.Refusal.{Refusal}
+use Rattle.book_bytes.specs.Record.{fields_in}
 use Rattle.book_bytes.specs.Refusal.{number_of, named_by}
-use Rattle.book_bytes.specs.Stored.{fields_in}
-use Rattle.book_laws.specs.Layout.{rbk1}
 use Rattle.book_laws.specs.Start.{Written, unwritten}
 use Rattle.book_laws.specs.Read.{Fields, unread}
 use Rattle.book_laws.specs.Accept.{Acceptance, unaccepted}
@@ -17,7 +16,7 @@ written_of (Err refusal) b = unwritten (number_of refusal) b
 
 abbrev pub fields_read : Result Record Refusal → Fields
 fields_read (Ok r) = record { number = 0; fields = fields_in r }
-fields_read (Err refusal) = unread rbk1 (number_of refusal)
+fields_read (Err refusal) = unread (number_of refusal)
 
 -- the note's length is the place of the first record
 abbrev pub acceptance_of : Result Code.Description Refusal → Acceptance

@@ -3,18 +3,19 @@ ghost use Rattle.std.specs.Prelude.{◌≡◌};
 ghost use Rattle.book_laws.specs.Book.{append_of};
 ghost use Rattle.book.specs.Answers.{written_of};
 
-use book_bytes::layout::{MOST_RECORDS, RECORD_LENGTH, TRAILER_LENGTH};
+use book_bytes::layout::{MOST_RECORDS, NEW, RECORD_LENGTH, TRAILER_LENGTH};
 use book_bytes::part::put;
 use book_bytes::record::Record;
 use book_bytes::refusal::Refusal;
-use book_bytes::trailer::{describe_book, trailer_of};
+use book_bytes::trailer::{describe_in, trailer_of};
 use fields::Case;
 
 // Answers the new used length.
 pub fn append(buffer: &mut [u8], used: usize, x: Case) -> Result<usize, Refusal>
     ensures { written_of result buffer.new ≡ append_of buffer.old used x }
 {
-    let book = describe_book(buffer, used)?;
+    // A book of another layout is refused by its mark.
+    let book = describe_in(NEW, buffer, used)?;
     if MOST_RECORDS <= book.count {
         return Err(Refusal::Full);
     }

@@ -1,2 +1,2 @@
 pub mod Parts
-pub mod Stored
+pub mod Layouts

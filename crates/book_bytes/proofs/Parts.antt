@@ -1,11 +1,13 @@
--- What a part of a list says is what the list says there: numbers, fields and the mark. The code reads a record or a trailer out of its own
+-- What a part of a list says is what the list says there: numbers and the mark. The code reads a record or a trailer out of its own
 -- bytes, and the laws speak of its place in the buffer. Also what a write into a part leaves. Assumes nothing.
-use Rattle.std.proofs.Common.{List, [], ap, ap₂, append-nil, append_assoc, arith, drop, drop-cons, eqb, get_or, length, refl}
-use Rattle.std.proofs.Common.{suc, sym, take, zero, zero-add, ℕ, ◌&&◌, ◌*◌, ◌++◌, ◌+◌, ◌-◌, ◌<◌, ◌∙◌, ◌∷◌, ◌≡◌, ◌≤◌}
+use Rattle.std.proofs.Common.{Bool, List, [], ap, ap₂, append-nil, append_assoc, arith, drop, drop-cons, eqb, false, get_or, length, ltb}
+use Rattle.std.proofs.Common.{ltb-false, ltb-true, not, refl, suc, sym, take, true, zero, ℕ, ◌&&◌, ◌*◌, ◌++◌, ◌+◌, ◌-◌, ◌<◌}
+use Rattle.std.proofs.Common.{◌∙◌, ◌∷◌, ◌≡◌, ◌≤◌}
 use Rattle.std.proofs.Math.Nat.{sub-zero}
 use Rattle.std.proofs.Math.Seq.{drop-length}
+use Rattle.std.proofs.lemmas.Bool.{and_parts, not-true}
 use Rattle.std.proofs.lemmas.Bool.Decides.{nat_tests}
-use Rattle.std.proofs.lemmas.List.{drop-drop, ext_get_or, get_or-drop, get_or-take}
+use Rattle.std.proofs.lemmas.List.{drop-drop, drop_all, ext_get_or, get_or-drop, get_or-take, get_or_past}
 use borrow.Rule.Slice.PartMut.{put_mid}
 use Rattle.std.specs.List.{slice_range, starts_with}
 use Rattle.splice.specs.Splice.{splice}
@@ -45,13 +47,6 @@ module _ (b t : List ℕ) (at n : ℕ) (part : Part b at n t) where
       ap₂ (λ (m k : ℕ). m * 256 + k) (number_in i w (omega arith))
       (part.same (i + w) (omega arith) ∙ ap (λ (k : ℕ). get_or b k 0) place)
 
-  pub words_in : (i k : ℕ) → i + 4 * k ≤ n → words_at t i k ≡ words_at b (at + i) k
-  unfolding words_at
-  words_in i zero h = refl
-  words_in i (suc k) h =
-      let place : at + (i + 4) ≡ at + i + 4 = omega arith in
-      ap₂ ◌∷◌ (number_in i 4 (omega arith)) (words_in (i + 4) k (omega arith) ∙ ap (λ (j : ℕ). words_at b j k) place)
-
   pub stands_in : (vs : List ℕ) (i : ℕ) → i + length vs ≤ n → stands vs t i ≡ stands vs b (at + i)
   unfolding stands
   stands_in [] i h = refl
@@ -75,20 +70,36 @@ splice_whole l vs size =
     let end : 0 + length vs ≡ length l = omega arith in
     ap (λ (n : ℕ). vs ++ drop n l) end ∙ ap (λ (t : List ℕ). vs ++ t) (drop-length l) ∙ append-nil vs
 
--- a list that starts with the bytes vs has them at its front
-starts_from : (vs l : List ℕ) (at : ℕ) → at + length vs ≤ length l → starts_with eqb (drop at l) vs ≡ stands vs l at
-unfolding stands
-starts_from [] l at h = refl
-starts_from (v ∷ vs) l at h =
-    let next : suc at ≡ at + 1 = omega arith in
-    ap (λ (t : List ℕ). starts_with eqb t (v ∷ vs)) (drop-cons l at 0 (omega arith))
-    ∙ ap₂ ◌&&◌ (eqb_swap v (get_or l at 0)) (ap (λ (k : ℕ). starts_with eqb (drop k l) vs) next ∙ starts_from vs l (at + 1) (omega arith))
+-- A list that starts with the bytes vs, none of which is zero, has them at its front. Past its end there are zeros.
 
-pub starts_stands : (vs l : List ℕ) → length vs ≤ length l → starts_with eqb l vs ≡ stands vs l 0
-starts_stands vs l h = starts_from vs l 0 (omega arith)
+unfoldable pub none_zero : List ℕ → Bool
+none_zero [] = true
+none_zero (v ∷ vs) = not (eqb v 0) && none_zero vs
+
+pub starts_stands : (vs l : List ℕ) (at : ℕ) → none_zero vs ≡ true → starts_with eqb (drop at l) vs ≡ stands vs l at
+unfolding stands none_zero
+starts_stands [] l at given = refl
+starts_stands (v ∷ vs) l at given =
+    by_test (ltb at (length l)) refl (and_parts _ _ given).0 (starts_stands vs l (at + 1) (and_parts _ _ given).1)
+  where
+    by_test :
+        (inside : Bool) → ltb at (length l) ≡ inside → not (eqb v 0) ≡ true →
+        starts_with eqb (drop (at + 1) l) vs ≡ stands vs l (at + 1) →
+        starts_with eqb (drop at l) (v ∷ vs) ≡ eqb (get_or l at 0) v && stands vs l (at + 1)
+    by_test true t given rest =
+        let next : suc at ≡ at + 1 = omega arith in
+        ap (λ (t : List ℕ). starts_with eqb t (v ∷ vs)) (drop-cons l at 0 (ltb-true _ _ t))
+        ∙ ap₂ ◌&&◌ (eqb_swap v (get_or l at 0)) (ap (λ (k : ℕ). starts_with eqb (drop k l) vs) next ∙ rest)
+    by_test false t given rest =
+        let past = ltb-false _ _ t in
+        let other : eqb (get_or l at 0) v ≡ false =
+        ap (λ (x : ℕ). eqb x v) (get_or_past l at 0 past) ∙ eqb_swap 0 v ∙ not-true _ given
+        in
+        ap (λ (t : List ℕ). starts_with eqb t (v ∷ vs)) (drop_all at l past)
+        ∙ sym (ap (λ (s : Bool). s && stands vs l (at + 1)) other)
 
 -- each of the fields that stand one after another
-pub words_at_each : (b : List ℕ) (at n k : ℕ) → k < n → get_or (words_at b at n) k 0 ≡ word_at b (at + 4 * k)
+words_at_each : (b : List ℕ) (at n k : ℕ) → k < n → get_or (words_at b at n) k 0 ≡ word_at b (at + 4 * k)
 unfolding words_at
 words_at_each b at zero k h = absurd (omega arith)
 words_at_each b at (suc n) zero h = ap (word_at b) (omega arith)
@@ -97,9 +108,9 @@ words_at_each b at (suc n) (suc k) h =
     words_at_each b (at + 4) n k (omega arith) ∙ ap (word_at b) place
 
 pub words_at_all :
-    (b ws : List ℕ) (n : ℕ) → length ws ≡ n → ((k : ℕ) → k < n → get_or ws k 0 ≡ word_at b (4 * k)) → ws ≡ words_at b 0 n
-words_at_all b ws n size each =
-    ext_get_or 0 ws (words_at b 0 n) (size ∙ sym (words_at_length b 0 n))
+    (b ws : List ℕ) (at n : ℕ) → length ws ≡ n → ((k : ℕ) → k < n → get_or ws k 0 ≡ word_at b (at + 4 * k)) → ws ≡ words_at b at n
+words_at_all b ws at n size each =
+    ext_get_or 0 ws (words_at b at n) (size ∙ sym (words_at_length b at n))
     (λ k h.
     let within : k < n = omega (arith, size) in
-    each k within ∙ sym (words_at_each b 0 n k within ∙ ap (word_at b) (zero-add (4 * k))))
+    each k within ∙ sym (words_at_each b at n k within))

@@ -1,3 +1,4 @@
 pub mod Refusal
+pub mod Layout
 pub mod Answers
-pub mod Stored
+pub mod Record

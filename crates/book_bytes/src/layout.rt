@@ -1,26 +1,74 @@
-// The layout RBK1 (`rbk1` in `book_laws`) as the code has it: the mark, how many fields and bytes a
-// record and a trailer have, where a number stands in them, and the most records of a book.
-use fields::WIDTH;
+// The layouts of books (`rbk1` and `rbk2` in `book_laws`) as the code has them: the mark, how many
+// inputs and bytes a record has, and where a number of a trailer stands.
+ghost use Rattle.std.specs.Prelude.{◌≡◌, ◌+◌};
+ghost use Rattle.book_bytes.specs.Layout.{layout_as};
+ghost use Rattle.book_laws.specs.Book.{layout_of};
+ghost use Rattle.book_laws.specs.Layout as Spec;
 
-pub const MARK: [u8; 4] = *b"RBK1";
+use fields::{OLDER_WIDTH, WIDTH};
 
-// A record is the inputs, the answer and the rating.
-pub const RECORD_FIELDS: usize = WIDTH + 2;
+// By the mark.
+#[derive(Clone, Copy)]
+pub enum Layout {
+    Rbk1,
+    Rbk2,
+}
 
-// In bytes, four a field.
-pub const RECORD_LENGTH: usize = 4 * RECORD_FIELDS;
+// Start writes it, and append takes no other.
+pub const NEW: Layout = Layout::Rbk2;
 
-pub const ANSWER_AT: usize = 4 * WIDTH;
+// In bytes, of a record of the new layout: the inputs, the answer and the rating, four a field.
+pub const RECORD_LENGTH: usize = 4 * (WIDTH + 2);
 
-pub const RATING_AT: usize = 4 * (WIDTH + 1);
-
-// The trailer is the mark, the count, the distance and the record length.
+// Of either layout. The trailer is the mark, the count, the distance and the record length.
 pub const TRAILER_LENGTH: usize = 16;
 
-pub const COUNT_AT: usize = 4;
+pub(crate) const COUNT_AT: usize = 4;
 
-pub const DISTANCE_AT: usize = 8;
+pub(crate) const DISTANCE_AT: usize = 8;
 
-pub const LENGTH_AT: usize = 12;
+pub(crate) const LENGTH_AT: usize = 12;
 
 pub const MOST_RECORDS: usize = 100000;
+
+impl Layout {
+    pub(crate) fn mark(self) -> [u8; 4]
+        ensures { result ≡ (layout_as self).mark }
+    {
+        match self {
+            Layout::Rbk1 => *b"RBK1",
+            Layout::Rbk2 => *b"RBK2",
+        }
+    }
+
+    // How many inputs of a case a record stores.
+    fn inputs(self) -> usize
+        ensures { result ≡ (layout_as self).inputs }
+    {
+        match self {
+            Layout::Rbk1 => OLDER_WIDTH,
+            Layout::Rbk2 => WIDTH,
+        }
+    }
+
+    pub(crate) fn record_length(self) -> usize
+        ensures { result ≡ Spec.record_length (layout_as self) }
+    {
+        4 * (self.inputs() + 2)
+    }
+}
+
+// Of the book in a buffer: RBK1 where that mark stands, and else RBK2, whose mark refusal 21 then asks
+// for.
+pub fn layout_of(buffer: &[u8], used: usize) -> Layout
+    ensures { layout_as result ≡ layout_of buffer.now used }
+{
+    let Some(trailer) = buffer.get(used.saturating_sub(TRAILER_LENGTH)..) else {
+        return Layout::Rbk2;
+    };
+    if trailer.starts_with(&Layout::Rbk1.mark()) {
+        Layout::Rbk1
+    } else {
+        Layout::Rbk2
+    }
+}

@@ -4,6 +4,7 @@
 pub mod Bytes
 pub mod Lawful
 pub mod Trailer
+pub mod Mark
 pub mod Record
 pub mod Disagreeing
 pub mod Accept
@@ -21,4 +22,6 @@ pub mod Judged
 pub mod Literal
 pub mod Instances
 pub mod CommonSheath
+pub mod Older
+pub mod LowVoltage
 pub mod Named

@@ -1,6 +1,7 @@
--- The operations on books. This is the one place that picks a layout: of a book, and of a new book. RBK1 is the only one. Assumes nothing.
-use Rattle.std.specs.Prelude.{List, ℕ}
-use Rattle.book_laws.specs.Layout.{Layout, rbk1}
+-- The operations on books. This is the one place that picks a layout: of a book, and of a new book. Assumes nothing.
+use Rattle.std.specs.Prelude.{cond, List, ◌≡◌, ℕ, ◌-◌}
+use Rattle.book_laws.specs.Bytes.{stands}
+use Rattle.book_laws.specs.Layout.{Layout, trailer_length, rbk1, rbk2}
 use Rattle.book_laws.specs.Trailer.{Description, describe_in}
 use Rattle.book_laws.specs.Start.{Written, start_in}
 use Rattle.book_laws.specs.Append.{append_in}
@@ -10,12 +11,17 @@ use Rattle.book_laws.specs.Build.{build_in}
 use Rattle.book_laws.specs.Built.{built_in, FitsIn, KeptIn}
 use Rattle.book_laws.specs.Appended.{AppendedIn}
 
--- of the book in b
-abbrev pub layout_of : List ℕ → ℕ → Layout
-layout_of b used = rbk1
+-- of the book in b: RBK1 where that mark stands, and else RBK2, whose mark refusal 21 then asks for
+unfoldable pub layout_of : List ℕ → ℕ → Layout
+layout_of b used = cond (stands rbk1.mark b (used - trailer_length rbk1)) rbk1 rbk2
 
+-- start writes it, and append takes no other
 abbrev pub new_layout : Layout
-new_layout = rbk1
+new_layout = rbk2
+
+-- the book in b is of the new layout, so that read and accept go by it
+abbrev pub IsNew : List ℕ → ℕ → Type 0
+IsNew b used = layout_of b used ≡ new_layout
 
 abbrev pub describe : List ℕ → ℕ → Description
 describe b used = describe_in (layout_of b used) b used
@@ -29,7 +35,7 @@ append_of b used x = append_in new_layout b used x
 abbrev pub read_of : List ℕ → ℕ → ℕ → Fields
 read_of b used index = read_in (layout_of b used) b used index
 
--- the cases of a book, as read answers them
+-- the cases of a book, as read answers them: the inputs that its layout stores
 abbrev pub cases_of : List ℕ → ℕ → List (List ℕ)
 cases_of b used = cases_read_in (layout_of b used) b used (describe b used).count
 

@@ -2,7 +2,7 @@
 use Rattle.std.specs.Prelude.{List, [], ◌++◌, ◌≡◌, ℕ, ◌+◌, ◌*◌, ◌≤◌, ◌<◌, length, get_or, take, drop}
 use Rattle.splice.specs.Splice.{splice}
 use Rattle.book_laws.specs.Layout.{Layout, record_length, trailer_length}
-use Rattle.book_laws.specs.Format.{fields_of, records_bytes, trailer_bytes}
+use Rattle.book_laws.specs.Format.{answered_fields, records_bytes, trailer_bytes}
 use Rattle.book_laws.specs.Start.{Written}
 use Rattle.book_laws.specs.Read.{read_in}
 use Rattle.book_laws.specs.Accept.{accept_in}
@@ -26,7 +26,7 @@ pub record FitsIn (l : Layout) (b : List ℕ) (note n : ℕ) : Type 0 where
 -- what is promised of w, which building from these cases left
 pub record KeptIn (l : Layout) (b : List ℕ) (note : ℕ) (xs : List (List ℕ)) (w : Written) : Type 0 where
   pub used : w.used ≡ used_for l note (length xs)
-  pub reads : (i : ℕ) → i < length xs → read_in l w.bytes w.used i ≡ record { number = 0; fields = fields_of l (get_or xs i []) }
+  pub reads : (i : ℕ) → i < length xs → read_in l w.bytes w.used i ≡ record { number = 0; fields = answered_fields l (get_or xs i []) }
   pub accepted : accept_in l w.bytes w.used ≡ record { number = 0; count = length xs; note = note; named = 0 }
   pub note_untouched : take note w.bytes ≡ take note b
   pub rest_untouched : drop w.used w.bytes ≡ drop w.used b

@@ -1,8 +1,8 @@
--- docs/BOOK.md, 'The bytes', of a layout: what a record and a trailer are written as, and where the trailer's numbers are read.
--- Assumes nothing.
+-- docs/BOOK.md, 'The bytes', of a layout: what a record and a trailer are written as, what read answers of a record, and where the
+-- trailer's numbers are read. Assumes nothing.
 use Rattle.std.specs.Prelude.{List, [], ◌∷◌, ◌++◌, ℕ, ◌+◌, ◌*◌}
 use Rattle.book_laws.specs.Bytes.{number_bytes, number_at, word_bytes, word_at, words_bytes}
-use Rattle.book_laws.specs.Layout.{Layout, record_length}
+use Rattle.book_laws.specs.Layout.{Layout, missing, record_length}
 
 -- A record is the inputs, the answer (0 rated, else the refusal) and the rating.
 
@@ -15,6 +15,15 @@ record_bytes l x = words_bytes (fields_of l x)
 unfoldable pub records_bytes : Layout → List (List ℕ) → List ℕ
 records_bytes l [] = []
 records_bytes l (x ∷ xs) = record_bytes l x ++ records_bytes l xs
+
+-- What read answers of a record: all inputs of its case, the answer and the rating.
+
+unfoldable pub all_fields : Layout → List ℕ → (number rating : ℕ) → List ℕ
+all_fields l x number rating = x ++ missing l ++ (number ∷ rating ∷ [])
+
+-- of the record of a case
+unfoldable pub answered_fields : Layout → List ℕ → List ℕ
+answered_fields l x = let a = l.rule x in all_fields l x a.number a.rating
 
 -- The trailer is the mark, the count, the distance back to the first record and the record length.
 

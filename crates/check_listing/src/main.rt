@@ -1,12 +1,13 @@
-// Prints the listing of a small book, without a note and with one case of zeros, of a book for each of
-// the refusals 20, 21, 22 and 23: a used length past the buffer, and the small book with one byte
-// changed; and of books of four such cases in which up to three records disagree, at the first, the
-// last and adjacent places.
+// Prints the listing of a small book of RBK2, without a note and with one case of zeros, of a book for
+// each of the refusals 20, 21, 22 and 23: a used length past the buffer, and the small book with one
+// byte changed; and of books of four such cases in which up to three records disagree, at the first,
+// the last and adjacent places. Then those of a small book of RBK1, with a rated case.
 #![tactic(auto)]
 
 use book::append::append;
 use book::start::start;
 use book_bytes::layout::{RECORD_LENGTH, TRAILER_LENGTH};
+use book_bytes::part::put;
 use book_bytes::refusal::Refusal;
 use fields::WIDTH;
 use list_text::{MOST, list_book};
@@ -16,6 +17,25 @@ type Book = [u8; MOST];
 
 // The used length of the small book.
 const USED: usize = RECORD_LENGTH + TRAILER_LENGTH;
+
+// The words of the small book of RBK1: the case, its answer and rating, and the trailer. No function
+// writes that mark.
+const OLDER: [u32; 32] = [
+    5, 1, 5000, 8500, 1500, 124000, 1450, 4200, 1750, 3600, 19000, 350, 1000, 4000, 1, 1000000,
+    6000, 6, 250000, 5500, 2500, 11000, 350000, 40000, 60000, 450000, 0, 457106, 0x52424b31, 1,
+    112, 112,
+];
+
+// Its used length.
+const OLDER_USED: usize = 4 * 32;
+
+fn older_book() -> Book {
+    let mut book = [0; MOST];
+    for (i, word) in OLDER.iter().enumerate() {
+        put(&mut book, 4 * i, &word.to_be_bytes());
+    }
+    book
+}
 
 // A book without a note.
 fn book_of(cases: usize) -> Result<Book, Refusal> {
@@ -57,6 +77,18 @@ fn show_disagreeing<W: Write>(to: &mut W, indices: &[u8]) -> Result<(), Refusal>
     Ok(())
 }
 
+// As for the small book of RBK2, and with that mark on the records of RBK1.
+fn show_older<W: Write>(to: &mut W) {
+    let sound = older_book();
+    let trailer = OLDER_USED - TRAILER_LENGTH;
+    show(to, &sound, OLDER_USED);
+    show(to, &sound, MOST + 1);
+    show(to, &changed(sound, trailer, 0), OLDER_USED);
+    show(to, &changed(sound, OLDER_USED - 1, 128), OLDER_USED);
+    show(to, &changed(sound, trailer - 1, 1), OLDER_USED);
+    show(to, &changed(sound, trailer + 3, b'2'), OLDER_USED);
+}
+
 fn show_all<W: Write>(to: &mut W) -> Result<(), Refusal> {
     let sound = book_of(1)?;
     show(to, &sound, USED);
@@ -69,7 +101,9 @@ fn show_all<W: Write>(to: &mut W) -> Result<(), Refusal> {
     show_disagreeing(to, &[0, 1])?;
     show_disagreeing(to, &[1, 2])?;
     show_disagreeing(to, &[2, 3])?;
-    show_disagreeing(to, &[3, 1, 0])
+    show_disagreeing(to, &[3, 1, 0])?;
+    show_older(to);
+    Ok(())
 }
 
 // These books fit. Were one refused, the listings from there on would be missing from what is printed.

@@ -86,5 +86,7 @@ fn main(rt: HostRuntime) -> io::Result<()> {
     let Count { made, failed } = ranges;
     print!(rt; "{made} published ratings held to their tolerance, {failed} outside\n")?;
     let distance = two_records::distance_of_two().unwrap_or(0);
-    print!(rt; "a book of 2 records has the distance {distance}\n")
+    print!(rt; "a book of 2 records has the distance {distance}\n")?;
+    let count = two_records::count_of_older(224).unwrap_or(0);
+    print!(rt; "an older book with the distance 224 has {count} records\n")
 }

@@ -10,6 +10,7 @@ use Rattle.book_laws.specs.Read.{unread}
 use Rattle.book_laws.specs.Accept.{unaccepted}
 use Rattle.book_laws.specs.Book.{layout_of, new_layout}
 use Rattle.book_laws.proofs.Laws.First.{start_by_refusals, append_by_refusals, read_by_refusals, accept_by_refusals}
+use Rattle.book_laws.proofs.Laws.Mark.{append_older}
 use Rattle.book_laws.proofs.Laws.Demands as Law
 use Rattle.book_laws.proofs.Laws.Margin as Margin
 use Rattle.demands.specs.Demands.{Demand1, Demand2, Demand3}
@@ -26,6 +27,7 @@ demand_1 =
       refused_case = λ x given. let zeros = refused_zeros x given in (zeros.rating, zeros.sheet);
       refused_start = λ b note given. ap (λ (w : Written). w.bytes) (Law.start_refused b note given);
       refused_append = λ b used x given. (Law.append_refused b used x given).bytes_stay;
+      older_append = append_older;
       first_named = Law.first_named;
     }
 
@@ -38,7 +40,7 @@ demand_2 =
       accepted = Law.accepted;
       accepts = Law.accepts;
       rebuilt = Law.rebuilt;
-      appended = λ b used x bytes fine is_a_case. Law.appended b used bytes fine x is_a_case;
+      appended = Law.appended;
     }
 
 pub demand_3 : Demand3

@@ -1,9 +1,8 @@
 -- The three demands, each as one theorem. Who believes the definitions that docs/CLAIMS.md lists needs to read nothing else: every premise
 -- stands on its own statement, and each proof is a law of `rating` or of `book_laws`, cited below. A case is a list of numbers; a book is
--- the first `used` bytes of a buffer b, a note before its records. In code `rate`, `start`, `append`, `read` and `accept` return what
--- `rate_of`, `start_of`, `append_of`, `read_of` and `accept_of` say, for every argument: their contracts have no premise, and the prover
--- shows
--- that they end. Assumes nothing.
+-- the first `used` bytes of a buffer b, a note before its records, and its mark says of which layout it is. In code `rate`, `start`,
+-- `append`, `read` and `accept` return what `rate_of`, `start_of`, `append_of`, `read_of` and `accept_of` say, for every argument: their
+-- contracts have no premise, and the prover shows that they end. Assumes nothing.
 use Rattle.std.specs.Prelude.{true, cond, List, [], ◌∷◌, ◌++◌, ◌≡◌, ℕ, ◌+◌, ◌-◌, ◌≤◌, eqb, length, take, drop, replicate}
 use Rattle.bools.specs.First.{or_refused}
 use Rattle.exact.specs.Fraction.{whole, ◌≤F◌, ◌<F◌}
@@ -15,15 +14,16 @@ use Rattle.rating.specs.Refusals.{refusals_of}
 use Rattle.rating.specs.Rate.{rated, rate_of}
 use Rattle.rating.specs.Exact.{exact_rise, permitted_of}
 use Rattle.rating.specs.Laws.Logarithms.{lowest}
-use Rattle.book_laws.specs.Bytes.{below, words_at}
-use Rattle.book_laws.specs.Layout.{record_fields, record_length, trailer_length}
-use Rattle.book_laws.specs.Format.{record_bytes, trailer_bytes}
-use Rattle.book_laws.specs.Record.{place_from, first_disagreeing}
+use Rattle.book_laws.specs.Bytes.{below, stands}
+use Rattle.book_laws.specs.Layout.{record_length, trailer_length, rbk1}
+use Rattle.book_laws.specs.Format.{record_bytes, all_fields, trailer_bytes}
+use Rattle.book_laws.specs.Record.{place_from, case_at, answer_at, rating_at, first_disagreeing}
 use Rattle.book_laws.specs.Refusals.{start_refusals, trailer_of, append_refusals, read_refusals, accept_refusals}
 use Rattle.book_laws.specs.Build.{all_cases}
 use Rattle.book_laws.specs.Book.{
   layout_of,
   new_layout,
+  IsNew,
   describe,
   start_of,
   append_of,
@@ -65,10 +65,10 @@ pub record Demand1 : Type 0 where
   pub read :
       (b : List ℕ) (used index : ℕ) →
       let l = layout_of b used in
-      let first = (trailer_of l b used).first in
+      let at = place_from l (trailer_of l b used).first index in
       read_of b used index
-      ≡ or_refused (λ n. record { number = n; fields = replicate 28 0 }) (read_refusals l b used index)
-      (record { number = 0; fields = words_at b (place_from l first index) (record_fields l) })
+      ≡ or_refused (λ n. record { number = n; fields = replicate 32 0 }) (read_refusals l b used index)
+      (record { number = 0; fields = all_fields l (case_at l b at) (answer_at l b at) (rating_at l b at) })
   -- refusal 23 names the first record that is not its case's rating, from 1
   pub accept :
       (b : List ℕ) (used : ℕ) →
@@ -82,16 +82,21 @@ pub record Demand1 : Type 0 where
   pub refused_case : (x : List ℕ) → ((rate_of x).number ≡ 0 → ⊥) → ((rate_of x).rating ≡ 0) × ((rate_of x).sheet ≡ replicate 13 0)
   pub refused_start : (b : List ℕ) (note : ℕ) → ((start_of b note).number ≡ 0 → ⊥) → (start_of b note).bytes ≡ b
   pub refused_append : (b : List ℕ) (used : ℕ) (x : List ℕ) → ((append_of b used x).number ≡ 0 → ⊥) → (append_of b used x).bytes ≡ b
+  -- a book with the mark RBK1 is not appended to, whatever its trailer says further
+  pub older_append :
+      (b : List ℕ) (used : ℕ) (x : List ℕ) → used ≤ length b → stands rbk1.mark b (used - trailer_length rbk1) ≡ true →
+      append_of b used x ≡ record { number = 21; used = 0; bytes = b }
   -- every record before the one that 23 names agrees, and it does not
   pub first_named : (b : List ℕ) (used : ℕ) → (accept_of b used).number ≡ 23 → DisagreesFirst b used (accept_of b used).named
 
--- Each rating and sheet number is that of the stages. Cases appended to a fresh book read back as they were. An accepted book built again
--- from its note and its cases has the same bytes.
+-- Each rating and sheet number is that of the stages. Cases appended to a fresh book read back as they were. An accepted book of the new
+-- layout, RBK2, built again from its note and its cases, has the same bytes.
 pub record Demand2 : Type 0 where
   pub stages : (x : List ℕ) → (rate_of x).number ≡ 0 → rate_of x ≡ rated x
   pub kept :
       (b : List ℕ) (note : ℕ) (xs : List (List ℕ)) → all_cases new_layout xs ≡ true → (build b note xs).number ≡ 0 →
-      Kept b note xs (build b note xs)
+      let w = build b note xs in
+      IsNew w.bytes w.used × Kept b note xs w
   -- appending is not refused where the buffer is long enough and the records are not too many
   pub fits :
       (b : List ℕ) (note : ℕ) (xs : List (List ℕ)) → all_cases new_layout xs ≡ true → Fits b note (length xs) →
@@ -103,25 +108,27 @@ pub record Demand2 : Type 0 where
       accept_of b used ≡ record { number = 0; count = (describe b used).count; note = (describe b used).first; named = 0 }
   -- in a buffer c that is long enough and has the note at its front; what stood behind stays
   pub rebuilt :
-      (b : List ℕ) (used : ℕ) → below 256 b ≡ true → Accepted b used → (c : List ℕ) → used ≤ length c →
+      (b : List ℕ) (used : ℕ) → below 256 b ≡ true → IsNew b used → Accepted b used → (c : List ℕ) → used ≤ length c →
       let note = (describe b used).first in
       take note c ≡ take note b →
       build c note (cases_of b used) ≡ record { number = 0; used = used; bytes = take used b ++ drop used c }
   -- to any accepted book, however it was made
   pub appended :
       (b : List ℕ) (used : ℕ) (x : List ℕ) → below 256 b ≡ true → Accepted b used → all_cases new_layout (x ∷ []) ≡ true →
-      (append_of b used x).number ≡ 0 → Appended b used x (append_of b used x)
+      (append_of b used x).number ≡ 0 →
+      let w = append_of b used x in
+      IsNew b used × IsNew w.bytes w.used × Appended b used x w
 
--- For each rated record of an accepted book, its case x and its rating i as `read` answers them, and whichever fractions between the stated
--- ends stand for pi, ln 2 and each logarithm that the arrangement has: at i mA the exact rise is at most the permitted rise, at i + 2 it is
--- above.
+-- For each rated record of an accepted book, of either mark, its case x and its rating i as `read` answers them, and whichever fractions
+-- between the stated ends stand for pi, ln 2 and each logarithm that the arrangement has: at i mA the exact rise is at most the permitted
+-- rise, at i + 2 it is above.
 pub record Demand3 : Type 0 where
   pub under :
-      (b : List ℕ) (used : ℕ) → Accepted b used → (k i : ℕ) (x : List ℕ) → length x ≡ 26 →
+      (b : List ℕ) (used : ℕ) → Accepted b used → (k i : ℕ) (x : List ℕ) →
       read_of b used k ≡ record { number = 0; fields = x ++ (0 ∷ i ∷ []) } → (c : Chosen) → Allowed (own x) x c →
       exact_rise x c (whole i) ≤F whole (permitted_of x)
   pub over :
-      (b : List ℕ) (used : ℕ) → Accepted b used → (k i : ℕ) (x : List ℕ) → length x ≡ 26 →
+      (b : List ℕ) (used : ℕ) → Accepted b used → (k i : ℕ) (x : List ℕ) →
       read_of b used k ≡ record { number = 0; fields = x ++ (0 ∷ i ∷ []) } → (c : Chosen) → Allowed (own x) x c →
       whole (permitted_of x) <F exact_rise x c (whole (i + 2))
   -- there are such fractions for every case: the lower ends

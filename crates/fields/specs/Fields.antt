@@ -1,11 +1,19 @@
--- docs/RATING.md, 'The fields of a case': a case is a list of 26 words of 32 bits. Each field has its name here, once. Assumes nothing.
-use Rattle.std.specs.Prelude.{List, ℕ, ℤ, get_or}
+-- docs/RATING.md, 'The fields of a case': a case is a list of 30 words of 32 bits. Each field has its name here, once. Assumes nothing.
+use Rattle.std.specs.Prelude.{List, ◌++◌, ℕ, ℤ, ◌-◌, get_or, replicate}
 use Rattle.std.specs.Int.{w32}
 use Rattle.std.proofs.Common.{to_z}
 
 -- how many words a case has
 abbrev pub width : ℕ
-width = 26
+width = 30
+
+-- and how many it had when RBK1 was the mark of new books
+abbrev pub older_width : ℕ
+older_width = 26
+
+-- a case of the older width as one of today's: the words that it does not have count as zero
+abbrev pub from_older : List ℕ → List ℕ
+from_older x = x ++ replicate (width - older_width) 0
 
 abbrev pub word : List ℕ → ℕ → ℕ
 word x i = get_or x i 0
@@ -106,3 +114,7 @@ t3 x = word x 24
 
 abbrev pub t4 : List ℕ → ℕ
 t4 x = word x 25
+
+-- the voltage to earth from which the dielectric loss counts
+abbrev pub loss_voltage : List ℕ → ℕ
+loss_voltage x = word x 26

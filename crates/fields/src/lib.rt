@@ -3,7 +3,10 @@
 #![tactic(auto)]
 
 // How many inputs a case has.
-pub const WIDTH: usize = 26;
+pub const WIDTH: usize = 30;
+
+// How many it had when RBK1 was the mark of new books. The inputs behind them count as zero.
+pub const OLDER_WIDTH: usize = 26;
 
 // The inputs of a case. An array with names for its places, and not a struct: C and a book have the words in this order, and a struct
 // would be copied field by field.
@@ -71,3 +74,6 @@ pub const T2: usize = 23;
 pub const T3: usize = 24;
 
 pub const T4: usize = 25;
+
+// The voltage to earth from which the dielectric loss counts.
+pub const LOSS_VOLTAGE: usize = 26;

@@ -1,5 +1,5 @@
-// The usual line: a case with one blank or tab between two numbers, read in one pass over its
-// bytes.
+// The usual line: the numbers of a case with one blank or tab between two of them, read in one pass
+// over its bytes.
 ghost use Rattle.std.specs.Prelude.{cond, true, ◌≡◌, ◌+◌, ◌<◌, ◌≤◌, eqb, get_or, length, IfSome};
 ghost use Rattle.line_in_place.specs.Plain.{longest_plain};
 ghost use Rattle.line_in_place.specs.Standing.{standing};
@@ -8,7 +8,7 @@ ghost use Rattle.fields.specs.Fields.{width};
 use crate::Line;
 use crate::number::number_at;
 use fields::WIDTH;
-use text::line::Said;
+use text::line::case_of;
 use text::words::is_blank;
 
 // The bytes of the longest plain line: for each number eleven and one after it, and a carriage
@@ -30,7 +30,8 @@ fn past_return(s: &[u8], at: usize) -> usize
     if s[at] == b'\r' { at + 1 } else { at }
 }
 
-// The line from `from` on, if it is a case with one blank between two numbers and none at its ends.
+// The line from `from` on, if it is at most as many numbers as a case has, with one blank between two
+// of them and none at its ends. What follows the last number is no blank.
 pub(crate) fn plain_line(s: &[u8], from: usize) -> Option<Line>
     ensures { IfSome result (λ line. Some line ≡ standing s.now from) }
 {
@@ -39,22 +40,21 @@ pub(crate) fn plain_line(s: &[u8], from: usize) -> Option<Line>
     }
     let mut fields = [0u32; WIDTH];
     let mut at = from;
-    for field in &mut fields[..WIDTH - 1] {
+    for i in 0..WIDTH {
         let number = number_at(s, at)?;
-        if !is_blank(s[number.to]) {
+        fields[i] = number.value;
+        if is_blank(s[number.to]) {
+            at = number.to + 1;
+            continue;
+        }
+        let to = past_return(s, number.to);
+        if s[to] != b'\n' {
             return None;
         }
-        *field = number.value;
-        at = number.to + 1;
+        return Some(Line {
+            to,
+            said: case_of(fields, i + 1),
+        });
     }
-    let last = number_at(s, at)?;
-    let to = past_return(s, last.to);
-    if s[to] != b'\n' {
-        return None;
-    }
-    fields[WIDTH - 1] = last.value;
-    Some(Line {
-        to,
-        said: Said::Case(fields),
-    })
+    None
 }

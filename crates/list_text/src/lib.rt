@@ -4,14 +4,16 @@
 
 ghost use Rattle.std.specs.Prelude.{[], ◌∷◌, ◌++◌, ◌≡◌, ◌+◌, ◌*◌, ◌≤◌, length};
 ghost use Rattle.arrayvec.specs.ArrayString.{array_string_len};
+ghost use Rattle.book_bytes.specs.Layout.{layout_as};
 ghost use Rattle.book_bytes.specs.Refusal.{named_by, number_of};
-ghost use Rattle.book_laws.specs.Layout.{rbk1, record_length};
+ghost use Rattle.book_laws.specs.Layout.{record_length};
 ghost use Rattle.list_text.specs.Listing.{record_lines, refusal_line, listing_of};
 ghost use Rattle.decimals.specs.Decimal.{decimal, written};
 
 use arrayvec::ArrayString;
 use book::accept::accept;
-use book_bytes::record::{Record, records};
+use book_bytes::layout::{Layout, layout_of};
+use book_bytes::record::{Record, place_from};
 use book_bytes::refusal::Refusal;
 use decimals::{put_decimal, put_number};
 
@@ -40,18 +42,22 @@ fn put_numbers<const N: usize>(out: &mut ArrayString<N>, number: u64, answer: u6
 }
 
 // (`as` here: std has no From between usize and u64, and no bit is lost.)
-// The lines of the first `count` records, of which the first stands at `first`. `first` and `count`
-// beside the buffer: a Description keeps no buffer, since append writes in it.
-// Not `(1..=u64::MAX).zip(..)`: its proof needs laws of how many numbers a range has left, and
-// `enumerate` none.
-fn put_records<const N: usize>(out: &mut ArrayString<N>, book: &[u8], first: usize, count: usize)
+// The lines of the first `count` records, of which the first stands at `first`. The layout, `first` and
+// `count` beside the buffer: a Description keeps no buffer, since append writes in it.
+fn put_records<const N: usize>(
+    out: &mut ArrayString<N>,
+    layout: Layout,
+    book: &[u8],
+    first: usize,
+    count: usize,
+)
     requires room { array_string_len out.old + 63 * count ≤ N }
-    requires inside { first + record_length rbk1 * count ≤ length book.now }
-    ensures text { out.new.bytes ≡ out.old.bytes ++ record_lines rbk1 book.now first count }
+    requires inside { first + record_length (layout_as layout) * count ≤ length book.now }
+    ensures text { out.new.bytes ≡ out.old.bytes ++ record_lines (layout_as layout) book.now first count }
     ensures within { array_string_len out.new ≤ array_string_len out.old + 63 * count }
 {
-    for (i, stored) in records(book, first, count).iter().enumerate() {
-        let record = Record::of_bytes(stored);
+    for i in 0..count {
+        let record = Record::of_bytes(layout, book, place_from(layout, first, i));
         put_numbers(
             out,
             i as u64 + 1,
@@ -86,7 +92,8 @@ pub fn list_book(book: &[u8; MOST], used: usize) -> Listing
     match accept(book, used) {
         Ok(accepted) => {
             put_line(&mut out, "book ", accepted.count as u64);
-            put_records(&mut out, book, accepted.first, accepted.count);
+            let layout = layout_of(book, used);
+            put_records(&mut out, layout, book, accepted.first, accepted.count);
         }
         Err(refusal) => put_refusal(&mut out, refusal),
     }

@@ -10,6 +10,7 @@ pub mod OnePoint
 pub mod SlType
 pub mod CommonSheath
 pub mod Arrangements
+pub mod LossVoltage
 pub mod Logarithms
 pub mod Stage10
 pub mod Bounds

@@ -1,6 +1,6 @@
 -- docs/RATING.md, 'The refusals': those that look at the fields alone, 1 to 7, each as a test that refuses, and the number of the first
 -- that does. Assumes nothing.
-use Rattle.std.specs.Prelude.{Bool, cond, not, ◌&&◌, List, ℕ, ◌*◌, leb, pos, neg_ℤ, ◌-ℤ◌}
+use Rattle.std.specs.Prelude.{Bool, cond, not, ◌&&◌, List, ℕ, ◌*◌, eqb, leb, pos, neg_ℤ, ◌-ℤ◌}
 use Rattle.std.specs.Int.Signed.{le_z}
 use Rattle.fields.specs.Fields as Field
 use Rattle.rating.specs.Within.{within, within_z}
@@ -14,7 +14,7 @@ arrangement_refused x = not (own x).known
 unfoldable pub conductor_refused : List ℕ → Bool
 conductor_refused x = not (within 1 8 (Field.conductor x))
 
--- 3, in three groups: fields 2 to 9; 10 to 16; and 22 to 25. The arrangement has the limits of fields 17 to 21.
+-- 3, in four groups: fields 2 to 9; 10 to 16; 22 to 25; and 26. The arrangement has the limits of fields 17 to 21.
 unfoldable pub conductor_limits : List ℕ → Bool
 conductor_limits x =
     within 1000 6500 (Field.frequency x)
@@ -43,12 +43,20 @@ thermal_limits x =
     && within 0 10000000 (Field.t3 x)
     && within 10000 20000000 (Field.t4 x)
 
-unfoldable pub limit_refused : List ℕ → Bool
-limit_refused x = not (conductor_limits x && sheath_limits x && thermal_limits x && (own x).limits x)
+unfoldable pub further_limits : List ℕ → Bool
+further_limits x = within 0 300000 (Field.loss_voltage x)
 
--- 4: not all fields that the arrangement does not have are zero
+unfoldable pub limit_refused : List ℕ → Bool
+limit_refused x =
+    not (conductor_limits x && sheath_limits x && thermal_limits x && further_limits x && (own x).limits x)
+
+-- fields 27 to 29, which have no meaning, are zero
+unfoldable pub unassigned : List ℕ → Bool
+unassigned x = eqb (Field.word x 27) 0 && eqb (Field.word x 28) 0 && eqb (Field.word x 29) 0
+
+-- 4: one of fields 27 to 29 is not zero, or one that the arrangement does not have
 unfoldable pub stray_refused : List ℕ → Bool
-stray_refused x = not ((own x).unused x)
+stray_refused x = not (unassigned x && (own x).unused x)
 
 -- 5: not dc ≤ ds, or 105 ds > 100 Di, or not Di ≤ d; the arrangement adds how its cores or cables lie
 unfoldable pub geometry_refused : List ℕ → Bool

@@ -1,6 +1,6 @@
 -- docs/RATING.md, stages 1 to 6 and 9 on a case: each value that does not depend on the arrangement alone, under the paper's letter.
 -- What an arrangement makes of them stands in Arrangement. Assumes nothing.
-use Rattle.std.specs.Prelude.{List, ℕ, ◌-ℤ◌, nat_abs}
+use Rattle.std.specs.Prelude.{Bool, cond, List, ℕ, ◌-ℤ◌, leb, nat_abs}
 use Rattle.formulas.specs.Tables.{ks, kp, coefficient, conductor_metal}
 use Rattle.formulas.specs.Resistance.{resistance}
 use Rattle.formulas.specs.Reactance.{reactance, reactance_low}
@@ -53,10 +53,16 @@ XLow x =
     sheath_reactance_low (reactance_low (Field.frequency x))
     (spacing_log_low (Field.arrangement x) (Field.spacing x) (Field.sheath_diameter x))
 
+-- whether the dielectric loss counts: U0 is at least the voltage from which it does
+unfoldable pub loss_counts : List ℕ → Bool
+loss_counts x = leb (Field.loss_voltage x) (Field.voltage x)
+
 unfoldable pub Wd : List ℕ → ℕ
 Wd x =
-    dielectric_loss (Field.permittivity x) (Field.voltage x) (Field.loss_factor x) (B x)
-    (log_low (Field.insulation_diameter x) (Field.screen_diameter x))
+    cond (loss_counts x)
+    (dielectric_loss (Field.permittivity x) (Field.voltage x) (Field.loss_factor x) (B x)
+    (log_low (Field.insulation_diameter x) (Field.screen_diameter x)))
+    0
 
 -- θc - θa, which refusal 6 keeps at 500 or above
 unfoldable pub rise_of : List ℕ → ℕ

@@ -3,21 +3,33 @@ ghost use Rattle.std.specs.Prelude.{◌≡◌, ◌≤◌};
 ghost use Rattle.formulas.specs.Dielectric.{dielectric_rise};
 ghost use Rattle.formulas.specs.Laws.Bounds.{most_cores};
 ghost use Rattle.fields.specs.Fields as Field;
-ghost use Rattle.rating.specs.Values.{B, Wd};
+ghost use Rattle.rating.specs.Values.{B, Wd, loss_counts};
 
 use super::case::SoundCase;
 use super::judge::FitCase;
-use fields::{INSULATION_DIAMETER, LOSS_FACTOR, PERMITTIVITY, SCREEN_DIAMETER, VOLTAGE};
+use fields::{
+    INSULATION_DIAMETER, LOSS_FACTOR, LOSS_VOLTAGE, PERMITTIVITY, SCREEN_DIAMETER, VOLTAGE,
+};
 use stages::dielectric::{dielectric_loss, dielectric_rise};
 use stages::logarithm::log;
 use wide::rounding::Down;
 
 impl SoundCase {
+    #[tactic(auto, unfolding(crate::specs::Values::loss_counts))]
+    fn loss_counts(&self) -> bool
+        ensures { result ≡ loss_counts self.now.x }
+    {
+        self.x[LOSS_VOLTAGE] <= self.x[VOLTAGE]
+    }
+
     #[tactic(auto, unfolding(crate::specs::Values::Wd))]
     pub(crate) fn dielectric_loss(&self, b: u64) -> u64
         requires { b ≡ B self.now.x }
         ensures { result ≡ Wd self.now.x }
     {
+        if !self.loss_counts() {
+            return 0;
+        }
         dielectric_loss(
             u64::from(self.x[PERMITTIVITY]),
             u64::from(self.x[VOLTAGE]),

@@ -13,9 +13,9 @@ use super::case::difference;
 use super::refusal::Refusal;
 use fields::{
     AMBIENT_TEMPERATURE, CONDUCTOR, CONDUCTOR_DIAMETER, CONDUCTOR_RESISTANCE,
-    CONDUCTOR_TEMPERATURE, Case, FREQUENCY, INSULATION_DIAMETER, LOSS_FACTOR, PERMITTIVITY,
-    SCREEN_DIAMETER, SHEATH_DIAMETER, SHEATH_METAL, SHEATH_RESISTANCE, SHEATH_TEMPERATURE, SPACING,
-    T1, T2, T3, T4, VOLTAGE,
+    CONDUCTOR_TEMPERATURE, Case, FREQUENCY, INSULATION_DIAMETER, LOSS_FACTOR, LOSS_VOLTAGE,
+    PERMITTIVITY, SCREEN_DIAMETER, SHEATH_DIAMETER, SHEATH_METAL, SHEATH_RESISTANCE,
+    SHEATH_TEMPERATURE, SPACING, T1, T2, T3, T4, VOLTAGE,
 };
 use stages::resistance::signed;
 
@@ -92,13 +92,36 @@ fn thermal_limits(x: Case) -> bool
         & within(10000, 20000000, x[T4])
 }
 
+#[tactic(auto, unfolding(crate::specs::FieldRefusals::further_limits))]
+fn further_limits(x: Case) -> bool
+    ensures { result ≡ FieldRefusals.further_limits x }
+{
+    within(0, 300000, x[LOSS_VOLTAGE])
+}
+
 // `its` is what the arrangement answered, a value and no switch.
 #[tactic(auto, unfolding(crate::specs::FieldRefusals::limit_refused))]
 fn limit_refused(x: Case, its: bool) -> bool
     requires { its ≡ (own x).limits x }
     ensures { result ≡ FieldRefusals.limit_refused x }
 {
-    !(conductor_limits(x) & sheath_limits(x) & thermal_limits(x) & its)
+    !(conductor_limits(x) & sheath_limits(x) & thermal_limits(x) & further_limits(x) & its)
+}
+
+// Fields 27 to 29, which have no meaning, are zero.
+#[tactic(auto, unfolding(crate::specs::FieldRefusals::unassigned))]
+fn unassigned(x: Case) -> bool
+    ensures { result ≡ FieldRefusals.unassigned x }
+{
+    (x[27] == 0) & (x[28] == 0) & (x[29] == 0)
+}
+
+#[tactic(auto, unfolding(crate::specs::FieldRefusals::stray_refused))]
+fn stray_refused(x: Case, its: bool) -> bool
+    requires { its ≡ (own x).unused x }
+    ensures { result ≡ FieldRefusals.stray_refused x }
+{
+    !(unassigned(x) & its)
 }
 
 #[tactic(auto, unfolding(crate::specs::FieldRefusals::geometry_refused))]
@@ -123,6 +146,7 @@ fn heat_refused(x: Case, its: bool) -> bool
 }
 
 // The first that is given, in rising order.
+#[tactic(auto, unfolding(crate::specs::FieldRefusals::field_refusal, crate::specs::FieldRefusals::arrangement_refused))]
 pub(crate) fn check_fields(x: Case, rules: Rules) -> Result<(), Refusal>
     requires { Asks (own x) x rules }
     ensures { ChecksFields x result }
@@ -133,7 +157,7 @@ pub(crate) fn check_fields(x: Case, rules: Rules) -> Result<(), Refusal>
     if limit_refused(x, rules.limits) {
         return Err(Refusal::Limit);
     }
-    if !rules.unused {
+    if stray_refused(x, rules.unused) {
         return Err(Refusal::Stray);
     }
     if geometry_refused(x, rules.geometry) {

@@ -1,4 +1,4 @@
-// The rating of docs/RATING.md: from the 26 words of a case to the answer, the rating and the sheet. Each arrangement has a module of
+// The rating of docs/RATING.md: from the 30 words of a case to the answer, the rating and the sheet. Each arrangement has a module of
 // its own, and the kind of a case picks it.
 #![tactic(auto)]
 

@@ -1,7 +1,11 @@
 /* Sheafdawn's proved rating and book, for C. Link libsheafdawn.a, which `rt lib` in crates/sheafdawn writes.
  *
  * Each function answers 0 or a refusal's number (docs/CLAIMS.md says what is proved of it), or SHEAFDAWN_WRONG_LENGTH where a length that
- * is passed is not the one named here; then nothing is written. A pointer and the length after it must belong together, as everywhere in C.
+ * is passed is not the one named here; then nothing is written. So a program that still passes cases of 26 words or records of 28 is told.
+ * A pointer and the length after it must belong together, as everywhere in C.
+ *
+ * A book bears one of two marks (docs/BOOK.md). sheafdawn_start writes RBK2, and sheafdawn_append takes no other. sheafdawn_read and
+ * sheafdawn_accept also take a book of RBK1, whose records have inputs 0 to 25 alone: the others are read as zeros.
  */
 #ifndef SHEAFDAWN_H
 #define SHEAFDAWN_H
@@ -13,9 +17,9 @@
 extern "C" {
 #endif
 
-#define SHEAFDAWN_CASE 26        /* words of a case */
+#define SHEAFDAWN_CASE 30        /* words of a case */
 #define SHEAFDAWN_RATED 14       /* the rating in mA, and the 13 numbers of the sheet */
-#define SHEAFDAWN_RECORD 28      /* the case, the answer and the rating */
+#define SHEAFDAWN_RECORD 32      /* the case, the answer and the rating */
 #define SHEAFDAWN_ACCEPTED 3     /* the count, the note's length, and for 23 the first record that disagrees */
 #define SHEAFDAWN_WRONG_LENGTH UINT32_MAX
 
@@ -46,13 +50,14 @@ enum {
     SHEAFDAWN_FIELD_T1 = 22,                    /* conductor to sheath, of one core */
     SHEAFDAWN_FIELD_T2 = 23,                    /* sheath to armour */
     SHEAFDAWN_FIELD_T3 = 24,                    /* outer covering */
-    SHEAFDAWN_FIELD_T4 = 25                     /* cable surface to ambient */
+    SHEAFDAWN_FIELD_T4 = 25,                    /* cable surface to ambient */
+    SHEAFDAWN_FIELD_LOSS_VOLTAGE = 26           /* the U0 from which the dielectric loss counts; fields 27 to 29 are 0 */
 };
 
 /* The fields of a record behind those of its case. */
 enum {
-    SHEAFDAWN_RECORD_ANSWER = 26,  /* 0, or the refusal's number */
-    SHEAFDAWN_RECORD_RATING = 27   /* in mA */
+    SHEAFDAWN_RECORD_ANSWER = 30,  /* 0, or the refusal's number */
+    SHEAFDAWN_RECORD_RATING = 31   /* in mA */
 };
 
 /* The arrangements. */
@@ -130,21 +135,21 @@ static inline const char *sheafdawn_word(uint32_t refusal) {
     }
 }
 
-/* Rates a case: case_length is 26, out_length 14. */
+/* Rates a case: case_length is 30, out_length 14. */
 uint32_t sheafdawn_rate(const uint32_t *case_words, size_t case_length, uint64_t *out, size_t out_length);
 
-/* Starts a book after a note whose bytes stand at the front of the buffer: out_length is 1, out gets the used length. */
+/* Starts a book of RBK2 after a note whose bytes stand at the front of the buffer: out_length is 1, out gets the used length. */
 uint32_t sheafdawn_start(uint8_t *buffer, size_t length, size_t note, size_t *out, size_t out_length);
 
-/* Appends a case to a book: case_length is 26, out_length 1, out gets the new used length. */
+/* Appends a case to a book of RBK2; 21 refuses one of RBK1. case_length is 30, out_length 1, out gets the new used length. */
 uint32_t sheafdawn_append(uint8_t *buffer, size_t length, size_t used, const uint32_t *case_words, size_t case_length, size_t *out,
                           size_t out_length);
 
-/* Reads the record of an index from 0, as written: out_length is 28. */
+/* Reads the record of an index from 0, as written, of a book of either mark: out_length is 32. */
 uint32_t sheafdawn_read(const uint8_t *buffer, size_t length, size_t used, size_t index, uint32_t *out, size_t out_length);
 
-/* Accepts a book: out_length is 3. Where it answers 23, the first two numbers are 0 and the third is the first record, counted from 1,
-   whose answer or rating is not its case's. */
+/* Accepts a book of either mark: out_length is 3. Where it answers 23, the first two numbers are 0 and the third is the first record,
+   counted from 1, whose answer or rating is not its case's. */
 uint32_t sheafdawn_accept(const uint8_t *buffer, size_t length, size_t used, size_t *out, size_t out_length);
 
 #ifdef __cplusplus

@@ -3,10 +3,11 @@
 #![allow(dead_code)] // a program needs some of what is here, not all
 
 /// The words of a case, in the order of docs/FIELDS.md; temperatures as two's complement.
-pub type Case = [u32; 26];
+pub type Case = [u32; 30];
 
-/// A record: the 26 inputs, the answer and the rating.
-pub type Record = [u32; 28];
+/// A record: the 30 inputs, the answer and the rating. In a book of RBK1 the inputs from 26 on are
+/// zeros.
+pub type Record = [u32; 32];
 
 /// The fields of a case; docs/RATING.md has their units and limits, and the codes.
 pub mod field {
@@ -62,14 +63,16 @@ pub mod field {
     pub const T3: usize = 24;
     /// cable surface to ambient
     pub const T4: usize = 25;
+    /// the U0 from which the dielectric loss counts; fields 27 to 29 are 0
+    pub const LOSS_VOLTAGE: usize = 26;
 }
 
 /// The fields of a record behind those of its case.
 pub mod record {
     /// 0, or the refusal's number
-    pub const ANSWER: usize = 26;
+    pub const ANSWER: usize = 30;
     /// in mA
-    pub const RATING: usize = 27;
+    pub const RATING: usize = 31;
 }
 
 /// The arrangements.
@@ -245,7 +248,8 @@ pub fn rate(case: &Case) -> Rated {
     Rated { answer, rating, sheet }
 }
 
-/// Starts a book after a note whose bytes stand at the front of the buffer. Answers the used length.
+/// Starts a book of RBK2 after a note whose bytes stand at the front of the buffer. Answers the used
+/// length.
 pub fn start(buffer: &mut [u8], note: usize) -> Result<usize, Refused> {
     let mut out = [0; 1];
     let number = unsafe {
@@ -254,7 +258,7 @@ pub fn start(buffer: &mut [u8], note: usize) -> Result<usize, Refused> {
     answered(number, 0, out[0])
 }
 
-/// Appends a case. Answers the new used length.
+/// Appends a case to a book of RBK2; 21 refuses one of RBK1. Answers the new used length.
 pub fn append(buffer: &mut [u8], used: usize, case: &Case) -> Result<usize, Refused> {
     let mut out = [0; 1];
     let number = unsafe {
@@ -271,15 +275,16 @@ pub fn append(buffer: &mut [u8], used: usize, case: &Case) -> Result<usize, Refu
     answered(number, 0, out[0])
 }
 
-/// The record of an index from 0, as written.
+/// The record of an index from 0, as written, of a book of either mark.
 pub fn read(buffer: &[u8], used: usize, index: usize) -> Result<Record, Refused> {
-    let mut out = [0; 28];
+    let mut out = [0; 32];
     let number = unsafe {
         sheafdawn_read(buffer.as_ptr(), buffer.len(), used, index, out.as_mut_ptr(), out.len())
     };
     answered(number, 0, out)
 }
 
+/// Accepts a book of either mark.
 pub fn accept(buffer: &[u8], used: usize) -> Result<Accepted, Refused> {
     let mut out = [0; 3];
     let number = unsafe {

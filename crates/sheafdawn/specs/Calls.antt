@@ -1,11 +1,10 @@
 -- What each C function answers and leaves behind its slices: the operation's answer, or 2^32 - 1 and every slice as it was, where a slice
 -- has a wrong length. Assumes nothing.
-use Rattle.std.specs.Prelude.{cond, List, [], ◌∷◌, ℕ, eqb, length}
+use Rattle.std.specs.Prelude.{cond, List, [], ◌∷◌, ℕ, ◌+◌, eqb, length}
 use Rattle.fields.specs.Fields.{width}
 use Rattle.rating.specs.Rate.{rate_of}
-use Rattle.book_laws.specs.Layout.{record_fields}
 use Rattle.book_laws.specs.Start.{Written}
-use Rattle.book_laws.specs.Book.{layout_of, start_of, append_of, read_of, accept_of}
+use Rattle.book_laws.specs.Book.{start_of, append_of, read_of, accept_of}
 
 abbrev pub wrong_length : ℕ
 wrong_length = 4294967295
@@ -28,7 +27,7 @@ rate_call x out =
     cond (eqb (length x) width) (called 14 out a.number (a.rating ∷ a.sheet)) (call wrong_length out)
 
 unfoldable pub read_call : List ℕ → ℕ → ℕ → List ℕ → Call
-read_call b used index out = let f = read_of b used index in called (record_fields (layout_of b used)) out f.number f.fields
+read_call b used index out = let f = read_of b used index in called (width + 2) out f.number f.fields
 
 unfoldable pub accept_call : List ℕ → ℕ → List ℕ → Call
 accept_call b used out = let a = accept_of b used in called 3 out a.number (a.count ∷ a.note ∷ a.named ∷ [])

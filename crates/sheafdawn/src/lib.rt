@@ -12,15 +12,15 @@ use book::accept::accept;
 use book::append::append;
 use book::read::read;
 use book::start::start;
-use book_bytes::layout::RECORD_FIELDS;
 use book_bytes::refusal::Refusal;
 use fields::WIDTH;
 use rating::rate::rate;
 
-// Refuses a slice of a wrong length, and then nothing is written.
+// Refuses a slice of a wrong length, a case of 26 and a record of 28 among them, and then nothing is
+// written.
 pub const WRONG_LENGTH: u32 = 4294967295;
 
-// Rates a case of 26 words. `out` gets 14 numbers: the rating in mA and the sheet. Answers 0 or the
+// Rates a case of 30 words. `out` gets 14 numbers: the rating in mA and the sheet. Answers 0 or the
 // refusal's number.
 #[unsafe(no_mangle)]
 pub extern "C" fn sheafdawn_rate(case: &[u32], out: &mut [u64]) -> u32
@@ -76,8 +76,8 @@ pub extern "C" fn sheafdawn_start(buffer: &mut [u8], note: usize, out: &mut [usi
     put_used(start(buffer, note), out)
 }
 
-// Appends a case of 26 words to a book. `out` gets one number, the new used length. Answers 0 or the
-// refusal's number.
+// Appends a case of 30 words to a book of RBK2; 21 refuses one of RBK1. `out` gets one number, the new
+// used length. Answers 0 or the refusal's number.
 #[unsafe(no_mangle)]
 pub extern "C" fn sheafdawn_append(
     buffer: &mut [u8],
@@ -88,27 +88,29 @@ pub extern "C" fn sheafdawn_append(
     ensures { book_call result buffer.new out.new
         ≡ append_call buffer.old used case.now out.old }
 {
-    let Some(case) = case.as_array() else {
+    let Some(x) = case.as_array() else {
         return WRONG_LENGTH;
     };
     if out.len() != 1 {
         return WRONG_LENGTH;
     }
-    put_used(append(buffer, used, *case), out)
+    put_used(append(buffer, used, *x), out)
 }
 
-// Reads a record by its index from 0. `out` gets 28 words: the inputs, the answer and the rating.
+// Reads a record by its index from 0. `out` gets 32 words: the inputs, the answer and the rating.
 // Answers 0 or the refusal's number.
 #[unsafe(no_mangle)]
 pub extern "C" fn sheafdawn_read(buffer: &[u8], used: usize, index: usize, out: &mut [u32]) -> u32
     ensures { call result out.new ≡ read_call buffer.now used index out.old }
 {
-    if out.len() != RECORD_FIELDS {
+    if out.len() != WIDTH + 2 {
         return WRONG_LENGTH;
     }
     match read(buffer, used, index) {
         Ok(record) => {
-            out[..WIDTH].copy_from_slice(&record.case);
+            // (not copy_from_slice, which would go over the stack)
+            let case = record.case;
+            *out.first_chunk_mut().unwrap() = case;
             out[WIDTH] = record.answer;
             out[WIDTH + 1] = record.rating;
             0

@@ -18,8 +18,8 @@ enum Form {
     Code(&'static [&'static str]),
 }
 
-// A row of the sheet, and the arrangements that have it: only the SL type has armour, and c is the
-// distance of a core's axis from that of a cable with three cores.
+// A row of the sheet, and the arrangements that have it: only the SL type has armour, c is the
+// distance of a core's axis from that of a cable with three cores, and none has fields 27 to 29.
 struct Field {
     label: Label,
     form: Form,
@@ -73,6 +73,10 @@ const FIELDS: [Field; WIDTH] = [
     field!("  T2", "K.m/W", "sheath to armour [0 to 10]", 6; Form::Plain, &ALL),
     field!("  T3", "K.m/W", "outer covering [0 to 10]", 6; Form::Plain, &ALL),
     field!("  T4", "K.m/W", "surface to ambient [0.01 to 20]", 6; Form::Plain, &ALL),
+    field!("  Ud", "V", "dielectric loss counts from [0 to 300000]", 0; Form::Plain, &ALL),
+    field!("  field 27", "", "must be 0", 0; Form::Plain, &[]),
+    field!("  field 28", "", "must be 0", 0; Form::Plain, &[]),
+    field!("  field 29", "", "must be 0", 0; Form::Plain, &[]),
 ];
 
 // A field in its unit.

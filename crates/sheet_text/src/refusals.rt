@@ -27,7 +27,8 @@ fn rule_of(refusal: Refusal) -> &'static str {
         Refusal::Limit =>
             "A field is outside its limits, which stand in brackets (the armour's hold in arrangement 5, c's in 5 and 6).",
         Refusal::Stray =>
-            "Only arrangement 5 has armour: in the others armour, RA0, theta_A and dA must be 0, and in 1 to 4 also c.",
+            "Only arrangement 5 has armour: in the others armour, RA0, theta_A and dA must be 0, and in 1 to 4 also c. \
+             In all, fields 27 to 29 must be 0.",
         Refusal::Geometry =>
             "It must be that dc <= ds, 1.05 ds <= Di and Di <= d; also d <= s in arrangements 1 to 5, \
              2 c <= dA in 5, dc <= s and 2 c <= d in 6.",

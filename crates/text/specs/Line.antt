@@ -1,7 +1,6 @@
--- What a line says: a case, nothing, or that it cannot be read. The count of a case's numbers is a parameter, so that a case may get
--- more of them. Assumes nothing.
+-- What a line says: a case, nothing, or that it cannot be read. Assumes nothing.
 use Rattle.std.specs.Prelude.{cond, ◌||◌, List, [], ◌∷◌, ℕ, zero, suc, ◌-◌, eqb, ltb, length, get_or, take}
-use Rattle.fields.specs.Fields.{width}
+use Rattle.fields.specs.Fields.{width, older_width, from_older}
 use Rattle.std.specs.Prelude.{Option, Some, None}
 use Rattle.text.specs.declared.line.Said.{Said}
 use Rattle.text.specs.declared.line.Said.TheVariants.{PassedOver, Case, Unreadable}
@@ -24,9 +23,29 @@ unfoldable pub fields : ℕ → List ℕ → Said
 fields zero s = cond (is_empty (drop_blanks s)) (Case []) Unreadable
 fields (suc n) s = field (read_number (word (drop_blanks s))) (fields n (drop_word (drop_blanks s)))
 
+-- a case of the older width as one of today's
+unfoldable pub filled : Said → Said
+filled PassedOver = PassedOver
+filled (Case xs) = Case (from_older xs)
+filled Unreadable = Unreadable
+
+-- the first where it is a case, else the second
+unfoldable pub or_else : Said → Said → Said
+or_else PassedOver other = other
+or_else (Case xs) other = Case xs
+or_else Unreadable other = other
+
+-- as many numbers as a case has, or as one of the older width has
+unfoldable pub case_fields : List ℕ → Said
+case_fields s = or_else (fields width s) (filled (fields older_width s))
+
+-- what a line of these numbers says, by their count
+unfoldable pub case_of : List ℕ → Said
+case_of xs = cond (eqb (length xs) width) (Case xs) (cond (eqb (length xs) older_width) (Case (from_older xs)) Unreadable)
+
 -- a line of blanks alone, or that begins with #, is passed over
-unfoldable pub says : ℕ → List ℕ → Said
-says n s = cond (is_empty (drop_blanks s) || eqb (get_or s 0 0) number_sign) PassedOver (fields n s)
+unfoldable pub says : List ℕ → Said
+says s = cond (is_empty (drop_blanks s) || eqb (get_or s 0 0) number_sign) PassedOver (case_fields s)
 
 -- a line's length without one carriage return at the very end
 unfoldable pub text_length : List ℕ → ℕ
@@ -36,9 +55,5 @@ text_length l = cond (eqb (get_or l (length l - 1) 0) carriage_return) (length l
 abbrev pub longest_line : ℕ
 longest_line = 1023
 
--- a line of n numbers
-unfoldable pub read_line_of : ℕ → List ℕ → Said
-read_line_of n l = cond (ltb longest_line (length l)) Unreadable (says n (take (text_length l) l))
-
 unfoldable pub read_line : List ℕ → Said
-read_line l = read_line_of width l
+read_line l = cond (ltb longest_line (length l)) Unreadable (says (take (text_length l) l))

@@ -1,13 +1,13 @@
 // A line read as a case: whether it is one, and its numbers (docs/FIELDS.md). A line of blanks alone,
 // or that begins with `#`, is passed over, so that a file of cases can have remarks.
-ghost use Rattle.std.specs.Prelude.{◌≡◌, ◌≤◌, length, take};
-ghost use Rattle.text.specs.Line.{fields, read_line, says, text_length};
+ghost use Rattle.std.specs.Prelude.{◌≡◌, ◌-◌, ◌≤◌, length, take, drop, replicate};
+ghost use Rattle.text.specs.Line.{case_fields, case_of, read_line, says, text_length};
 ghost use Rattle.fields.specs.Fields.{width};
 ghost use Rattle.text.specs.Laws.Leading.{WordAt};
 
 use crate::number::{LARGEST, number_in, read_number};
 use crate::words::{is_past_word, skip_blanks, skip_word};
-use fields::{Case, WIDTH};
+use fields::{Case, OLDER_WIDTH, WIDTH};
 
 // The most bytes of a line that is read, without its line feed.
 pub const LONGEST: usize = 1023;
@@ -49,19 +49,34 @@ fn read_word(s: &[u8], from: usize) -> Word
     Word { to: end, said }
 }
 
-// As many numbers as a case has, and nothing but blanks after them.
+// What a line of `count` numbers says, which are the first of these fields. The others are zero.
+pub fn case_of(fields: Case, count: usize) -> Said
+    requires fits { count ≤ width }
+    requires zeros { drop count fields ≡ replicate (width - count) 0 }
+    ensures { result ≡ case_of (take count fields) }
+{
+    if (count == WIDTH) | (count == OLDER_WIDTH) {
+        return Said::Case(fields);
+    }
+    Said::Unreadable
+}
+
+// As many numbers as a case has, or as one of the older width has, and nothing but blanks after them.
 fn read_fields(s: &[u8]) -> Said
-    ensures { result ≡ fields width s.now }
+    ensures { result ≡ case_fields s.now }
 {
     let mut fields = [0u32; WIDTH];
     let mut at = 0;
-    for field in fields.iter_mut() {
+    for i in 0..WIDTH {
         let from = skip_blanks(s, at);
+        if s.len() <= from {
+            return case_of(fields, i);
+        }
         let word = read_word(s, from);
         let Some(x) = word.said else {
             return Said::Unreadable;
         };
-        *field = x;
+        fields[i] = x;
         at = word.to;
     }
     if skip_blanks(s, at) < s.len() {
@@ -72,7 +87,7 @@ fn read_fields(s: &[u8]) -> Said
 
 // A line with no carriage return at its end.
 fn read_text(s: &[u8]) -> Said
-    ensures { result ≡ says width s.now }
+    ensures { result ≡ says s.now }
 {
     if s.len() <= skip_blanks(s, 0) {
         return Said::PassedOver;

@@ -1,6 +1,6 @@
 // margins: draws rated cases, of any arrangement or of one, and measures by
 // exact fractions how far each is from the two bounds on its rating. A case that
-// breaks a bound is printed as its 26 numbers. The same seed gives the same cases.
+// breaks a bound is printed as its numbers. The same seed gives the same cases.
 
 use std::cmp::Ordering;
 use std::process::ExitCode;
@@ -8,7 +8,7 @@ use twin::dice::Dice;
 use twin::drawn_cases::{rated_case, rated_case_of};
 use twin::lines::case_line;
 use twin::margins::{margins, Margins};
-use twin::rating::{limits, Rated, Words};
+use twin::rating::{limits, loss_counts, Rated, Words};
 use twin::stages::LARGEST_RS_OF_SUM;
 
 /// How many lines of progress a run writes on standard error.
@@ -48,8 +48,9 @@ impl Asked {
     }
 }
 
-fn report(count: u64, broken: u64, all: &Margins) {
+fn report(count: u64, without_loss: u64, broken: u64, all: &Margins) {
     println!("{count} cases, {broken} broken; {} combinations of ends", all.combinations);
+    println!("of {without_loss} the dielectric loss does not count");
     println!("least margin under the line at I: {:e} of the permitted rise", all.under);
     println!("least margin above it at I + 2: {:e} of the permitted rise", all.above);
     println!("largest relative error of E: {:e}", all.e_error);
@@ -75,11 +76,12 @@ fn measure(asked: &Asked) -> u64 {
     // From 0 the dice would show nothing but 0, so no seed begins there.
     let mut dice = Dice(u64::from(asked.seed) + 1);
     let mut all = Margins::none();
-    let mut broken = 0;
+    let (mut without_loss, mut broken) = (0, 0);
     let mut resistances = Vec::new();
     for done in 1..=asked.count {
         let (case, rated) = asked.draw(&mut dice);
         resistances.push(rated.sheet[RS]);
+        without_loss += u64::from(!loss_counts(&case));
         match margins(&case, &rated) {
             Some(margins) => all = all.join(&margins),
             None => {
@@ -91,7 +93,7 @@ fn measure(asked: &Asked) -> u64 {
             eprintln!("margins: {done} of {} cases", asked.count);
         }
     }
-    report(asked.count, broken, &all);
+    report(asked.count, without_loss, broken, &all);
     if asked.arrangement == Some(OF_TWO_FORMULAS) {
         report_formulas(&resistances);
     }

@@ -1,5 +1,5 @@
-// twin-rate: rates the cases on standard input, one line of 26 numbers each,
-// and writes answer, rating and sheet for each on standard output.
+// twin-rate: rates the cases on standard input, one line of numbers each, and
+// writes answer, rating and sheet for each on standard output.
 
 use std::io::{self, BufWriter};
 use std::process::ExitCode;

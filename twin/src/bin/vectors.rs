@@ -6,7 +6,7 @@
 use twin::dice::Dice;
 use twin::drawn_cases::drawn_case;
 use twin::edge_cases::groups;
-use twin::lines::{answer_line, case_line};
+use twin::lines::{answer_line, case_line, older_line};
 use twin::published::published;
 use twin::rating::Words;
 
@@ -27,11 +27,13 @@ fn print_edges() {
 }
 
 fn print_published() {
-    println!("# The published cables, with their printed rating less and plus the tolerance.");
+    println!(
+        "# The published cables as older cases, with their rating less and plus the tolerance."
+    );
     for cable in published() {
         let low = 10.0 * cable.amperes * (100.0 - cable.tolerance);
         let high = 10.0 * cable.amperes * (100.0 + cable.tolerance);
-        println!("{}\nr {} {}", case_line(&cable.case), low.ceil(), high.floor());
+        println!("{}\nr {} {}", older_line(&cable.case), low.ceil(), high.floor());
     }
 }
 

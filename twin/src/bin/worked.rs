@@ -4,7 +4,7 @@
 
 use std::fmt::Display;
 use twin::cable::Cable;
-use twin::rating::{rate, value, Rated, Words};
+use twin::rating::{rate, value, Rated, Words, WIDTH};
 use twin::sample_cables::{COMMON_ALUMINIUM_SHEATH, COMMON_SHEATH};
 use twin::stages::{self, Insulation, Thermal, LN_2_HIGH, LN_2_LOW, T};
 use twin::tables;
@@ -13,10 +13,10 @@ use twin::whole::{down, up};
 /// The page's three-core SL cable.
 const CASE: Words = [
     5, 1, 5000, 8500, 1500, 124_000, 1450, 4200, 1750, 3600, 19000, 350, 1000, 4000, 1, 1_000_000,
-    6000, 6, 250_000, 5500, 2500, 11000, 350_000, 40_000, 60_000, 450_000,
+    6000, 6, 250_000, 5500, 2500, 11000, 350_000, 40_000, 60_000, 450_000, 0, 0, 0, 0,
 ];
 
-const FIELD_NAMES: [&str; 26] = [
+const FIELD_NAMES: [&str; WIDTH] = [
     "arrangement",
     "conductor",
     "f",
@@ -43,6 +43,10 @@ const FIELD_NAMES: [&str; 26] = [
     "T2",
     "T3",
     "T4",
+    "Ud",
+    "field-27",
+    "field-28",
+    "field-29",
 ];
 
 const THERMAL: Thermal = Thermal {

@@ -1,5 +1,6 @@
 // The codes of arrangement, conductor and metals, from one below the first to
-// one above the last, and the fields that an arrangement does not have.
+// one above the last, and the fields that an arrangement does not have and others
+// do.
 
 use super::{Edge, Group};
 use crate::rating::{limits, Words};

@@ -1,4 +1,4 @@
-// Every field from 2 on at both of its limits, which pass refusal 3, and one
+// Every field from 2 to 26 at both of its limits, which pass refusal 3, and one
 // beyond. The other fields are such that the case at the limit is rated
 // wherever it can be, so that a limit stated one off changes the answer from a
 // refusal to a rating or the other way round.
@@ -77,9 +77,9 @@ fn field_edges(cable: &Words, field: usize) -> [Edge; 4] {
 /// for all, and the one with a common sheath for every arrangement's and c, which
 /// must not be 0 there.
 pub fn limits() -> Group {
-    let every_arrangements = || (2..=16).chain(22..=25);
+    let every_arrangements = || (2..=16).chain(22..=26);
     let single_core = every_arrangements().flat_map(|field| field_edges(&TREFOIL, field));
-    let armoured = (2..=25).flat_map(|field| field_edges(&SL_TYPE, field));
+    let armoured = (2..=26).flat_map(|field| field_edges(&SL_TYPE, field));
     let with_c = every_arrangements().chain([20]);
     let common_sheath = with_c.flat_map(|field| field_edges(&COMMON_SHEATH, field));
     let without_c = Edge { case: with(&COMMON_SHEATH, &[(20, 0)]), answer: 3 };

@@ -8,6 +8,8 @@
 // 1 with 4, 7 and 9, which are stated for some of arrangements 1 to 6 only;
 // 1 with 11, as stage 7 is stated for arrangements 1 to 6;
 // 2 with 8 and 11, as ks, kp and the temperature coefficient are for codes 1 to 8.
+// 3 by the loss voltage is not with 10: beyond its limits it is above every U0, so
+// that the loss does not count.
 
 use super::{Edge, Group};
 use crate::rating::{holds, Words};
@@ -67,6 +69,11 @@ pub const COMMON_BRINGS: [Bring; 9] = [
 const COMMON_OWN: [Bring; 4] =
     [(3, &[(20, 99)]), (4, &[(21, 1)]), (5, &[(7, 1849)]), (5, &[(20, 3689)])];
 
+/// Changes to any cable, by the fields that all arrangements have alike: a loss
+/// voltage beyond its limits, and the first field without a meaning.
+const LOSS_VOLTAGE: Bring = (3, &[(26, 300_001)]);
+const UNASSIGNED: Bring = (4, &[(27, 1)]);
+
 /// A case, the cable that it was made of, and the two refusals that hold of it,
 /// the earlier first.
 pub struct Pair {
@@ -121,16 +128,28 @@ fn armour_pairs() -> Vec<Pair> {
     pairs
 }
 
-/// Those of what arrangement 6 alone asks with each other refusal.
+/// Those of one way to bring about a refusal with each other refusal.
+fn pairs_with(cable: &Words, own: Bring, brings: &[Bring]) -> Vec<Pair> {
+    let with_other = |&other: &Bring| match own.0.cmp(&other.0) {
+        Ordering::Less => Some(pair(cable, own, other)),
+        Ordering::Equal => None,
+        Ordering::Greater => Some(pair(cable, other, own)),
+    };
+    brings.iter().filter_map(with_other).collect()
+}
+
+/// Those of what arrangement 6 alone asks.
 fn common_own_pairs() -> Vec<Pair> {
-    let mut pairs = Vec::new();
-    for own in COMMON_OWN {
-        pairs.extend(COMMON_BRINGS.iter().filter_map(|&other| match own.0.cmp(&other.0) {
-            Ordering::Less => Some(pair(&COMMON_SHEATH, own, other)),
-            Ordering::Equal => None,
-            Ordering::Greater => Some(pair(&COMMON_SHEATH, other, own)),
-        }));
-    }
+    COMMON_OWN.iter().flat_map(|&own| pairs_with(&COMMON_SHEATH, own, &COMMON_BRINGS)).collect()
+}
+
+/// Those of the fields that all arrangements have alike, with each other and with a
+/// cable's refusals.
+fn alike_pairs(cable: &Words, brings: &[Bring]) -> Vec<Pair> {
+    let not_10: Vec<Bring> = brings.iter().copied().filter(|bring| bring.0 != 10).collect();
+    let mut pairs = vec![pair(cable, LOSS_VOLTAGE, UNASSIGNED)];
+    pairs.extend(pairs_with(cable, LOSS_VOLTAGE, &not_10));
+    pairs.extend(pairs_with(cable, UNASSIGNED, brings));
     pairs
 }
 
@@ -140,6 +159,9 @@ pub fn all() -> Vec<Pair> {
     pairs.extend(armour_pairs());
     pairs.extend(every_pair(&COMMON_SHEATH, &COMMON_BRINGS));
     pairs.extend(common_own_pairs());
+    pairs.extend(alike_pairs(&TREFOIL_SINGLE_POINT, &BRINGS));
+    pairs.extend(alike_pairs(&SL_TYPE, &BY_CORE_OR_ARMOUR.map(|(number, core, _)| (number, core))));
+    pairs.extend(alike_pairs(&COMMON_SHEATH, &COMMON_BRINGS));
     pairs
 }
 

@@ -5,7 +5,7 @@ use twin::dice::Dice;
 use twin::drawn_cases::{disturb, sound_case};
 use twin::edge_cases::common_sheath::{with_sheath, NEAREST};
 use twin::rating::{rate, Rated, Words};
-use twin::sample_cables::{with, ALL};
+use twin::sample_cables::{with, ALL, LOW_VOLTAGE};
 use twin::standard::Cable;
 
 /// The float rating less the whole one, in mA. The whole one is cautious: it
@@ -29,7 +29,7 @@ fn relative_gap(case: &Words, rated: &Rated) -> f64 {
 }
 
 /// Variations every arrangement can bear.
-const VARIATIONS: [&[(usize, u32)]; 9] = [
+const VARIATIONS: [&[(usize, u32)]; 10] = [
     &[],
     &[(2, 6000)],
     &[(2, 1667), (4, 0)],
@@ -39,12 +39,13 @@ const VARIATIONS: [&[(usize, u32)]; 9] = [
     &[(1, 8), (4, (-2000i32) as u32)],
     &[(10, 0)],
     &[(15, 500_000), (16, (-500i32) as u32), (23, 90_000)],
+    &[(26, 300_000)],
 ];
 
 #[test]
 fn real_cases_agree() {
     let mut largest = 0f64;
-    for base in ALL {
+    for base in ALL.into_iter().chain([LOW_VOLTAGE]) {
         for changes in VARIATIONS {
             let case = with(&base, changes);
             let rated = rate(&case);
@@ -95,7 +96,9 @@ fn rolled_cases_agree() {
 /// that the standard names.
 #[test]
 fn sheets_agree() {
-    for case in ALL {
+    let without_loss = ALL.map(|case| with(&case, &[(26, case[10] + 1)]));
+    let at_u0 = ALL.map(|case| with(&case, &[(26, case[10])]));
+    for case in [ALL, without_loss, at_u0].into_iter().flatten().chain([LOW_VOLTAGE]) {
         let sheet = rate(&case).sheet.map(|number| number as f64);
         let cable = Cable::from_fields(&case);
         let r = cable.ac_resistance();
@@ -121,7 +124,7 @@ fn sheets_agree() {
     }
 }
 
-/// Any 26 words get an answer; run with overflow checks (cargo test without
+/// Any words get an answer; run with overflow checks (cargo test without
 /// --release) this is also the test that no stage overflows.
 #[test]
 fn any_words_get_an_answer() {

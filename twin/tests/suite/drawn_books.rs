@@ -1,6 +1,6 @@
 // The books of make-books: what each kind is made for, it must bring about.
 
-use twin::book::{accept, case_of, read, Refusal, ANSWER, RATING};
+use twin::book::{accept, append, case_of, read, Refusal, ANSWER, LAYOUTS, RATING};
 use twin::dice::Dice;
 use twin::drawn_books::{drawn_book, KINDS};
 use twin::listing::listing;
@@ -13,6 +13,12 @@ const TURNS: usize = 48;
 fn drawn_books(seed: u64) -> Vec<Vec<u8>> {
     let mut dice = Dice(seed);
     (0..TURNS * KINDS.len()).map(|number| drawn_book(&mut dice, number)).collect()
+}
+
+/// Which mark a book has where a trailer has its mark, 0 or 1, if any.
+fn mark_of(book: &[u8]) -> Option<usize> {
+    let trailer = book.get(book.len().checked_sub(16)?..)?;
+    LAYOUTS.iter().position(|layout| trailer.starts_with(&layout.mark))
 }
 
 /// The number after `refused`, or 0 for an accepted book.
@@ -35,6 +41,50 @@ fn sound_kinds_are_accepted_and_all_refusals_appear() {
     }
     println!("accepted {}, refused 20 to 23 {:?}", refusals[0], &refusals[20..=23]);
     assert!(refusals[20..=23].iter().all(|&count| count > TURNS / 4));
+}
+
+#[test]
+fn every_kind_of_book_has_either_mark() {
+    let mut marks = vec![[0; 2]; KINDS.len()];
+    for (number, book) in drawn_books(7).iter().enumerate() {
+        if let Some(mark) = mark_of(book) {
+            marks[number % KINDS.len()][mark] += 1;
+        }
+    }
+    println!("books of either mark by kind: {marks:?}");
+    let sound = &marks[..SOUND_KINDS];
+    assert!(sound
+        .iter()
+        .all(|marks| marks[0].min(marks[1]) > TURNS / 5 && marks[0] + marks[1] == TURNS));
+    let both = marks.iter().filter(|marks| marks[0].min(marks[1]) > TURNS / 8);
+    // All but those cut at their end, of random bytes, of none, and under a trailer.
+    assert_eq!(both.count(), KINDS.len() - 4);
+}
+
+/// Books of each mark are refused by each number, and accepted; of those that are
+/// not longer than their buffer, append takes the sound ones of one mark.
+#[test]
+fn either_mark_gets_every_refusal() {
+    let mut refusals = [[0; 27]; 2];
+    for book in drawn_books(8) {
+        let Some(mark) = mark_of(&book) else { continue };
+        let refusal = refusal_listed(&book);
+        refusals[mark][refusal as usize] += 1;
+        let mut buffer = [&book[..], &[0; 128]].concat();
+        let taken = append(&mut buffer, book.len(), &[0; 30]).map_err(Refusal::number);
+        let expected = match (mark, refusal) {
+            (0, _) => Err(21),
+            (_, 22) => Err(22),
+            _ => Ok(book.len() + 128),
+        };
+        if refusal != 20 {
+            assert_eq!(taken, expected, "{mark} {refusal}");
+        }
+    }
+    println!("accepted and refused of either mark {refusals:?}");
+    for number in [0, 20, 22, 23] {
+        assert!(refusals.iter().all(|refusals| refusals[number] > 5), "{number} {refusals:?}");
+    }
 }
 
 #[test]

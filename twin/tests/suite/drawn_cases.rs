@@ -5,7 +5,7 @@
 use twin::cable::Cable;
 use twin::dice::Dice;
 use twin::drawn_cases::drawn_case;
-use twin::rating::{rate, Words, CURRENT_LIMIT, SKIN_LIMIT};
+use twin::rating::{loss_counts, rate, Words, CURRENT_LIMIT, SKIN_LIMIT};
 use twin::stages::LARGEST_RS_OF_SUM;
 
 const DRAWN: usize = 100_000;
@@ -42,6 +42,37 @@ fn currents_next_to_the_limit_occur() {
         let nearest = nearest(currents, CURRENT_LIMIT);
         println!("the nearest current of answer {answer} is {nearest} mA from the limit");
         assert!(nearest < 3, "{answer}: {nearest}");
+    }
+}
+
+/// A name of loss voltages, and whether a case has such a one.
+type Place = (&'static str, fn(&Words) -> bool);
+
+/// Of rated cases and of those refused for their dielectric, the loss voltage is 0,
+/// U0 itself, one above or below it, and the highest; beyond its limits it is refused,
+/// and so is each field without a meaning.
+#[test]
+fn loss_voltages_about_u0_and_their_limits_occur() {
+    let drawn = drawn();
+    let places: [Place; 5] = [
+        ("0", |case| case[26] == 0 && case[10] > 0),
+        ("U0", |case| case[26] == case[10] && case[10] > 0),
+        ("one above U0", |case| case[26] == case[10] + 1),
+        ("one below U0", |case| case[26] + 1 == case[10]),
+        ("the highest", |case| case[26] == 300_000 && case[10] < 300_000),
+    ];
+    for (name, place) in places {
+        let rated = count(&drawn, |case, answer| answer == 0 && place(case));
+        let refused = count(&drawn, |case, answer| answer == 10 && place(case));
+        println!("the loss voltage is {name} in {rated} rated cases, {refused} refused by 10");
+        assert!(rated > DRAWN / 200, "{name}: {rated}");
+    }
+    assert_eq!(count(&drawn, |case, answer| answer == 10 && !loss_counts(case)), 0);
+    let beyond = |voltage| count(&drawn, |case, answer| case[26] == voltage && answer == 3);
+    assert!(beyond(300_001).min(beyond(u32::MAX)) > 20);
+    for field in 27..30 {
+        let stray = count(&drawn, |case, answer| case[field] != 0 && answer == 4);
+        assert!(stray > 50, "{field}: {stray}");
     }
 }
 

@@ -12,7 +12,9 @@ use twin::fraction::Fraction;
 use twin::margins::{distance_under_line, margins, margins_at, Margins};
 use twin::published::published;
 use twin::rating::{rate, Rated, Words};
-use twin::sample_cables::{ALL, COMMON_SHEATH, FLAT, SL_TYPE, TREFOIL, TREFOIL_SINGLE_POINT};
+use twin::sample_cables::{
+    with, ALL, COMMON_SHEATH, FLAT, LOW_VOLTAGE, SL_TYPE, TREFOIL, TREFOIL_SINGLE_POINT,
+};
 use twin::standard::Cable;
 
 const FIGURE: &str = concat!(env!("CARGO_MANIFEST_DIR"), "/../docs/margins.svg");
@@ -123,6 +125,23 @@ fn each_real_looking_cable_to_the_thousandth() {
             assert!(Fraction::new(thousandths, 1000) <= fraction && fraction < next, "{case:?}");
         }
     }
+}
+
+/// Where the loss does not count the exact rise has none of it either.
+#[test]
+fn the_exact_rise_counts_the_loss_as_the_rating_does() {
+    for case in ALL.into_iter().chain([LOW_VOLTAGE]) {
+        let u0 = case[10];
+        for (loss_voltage, counts) in [(0, true), (u0 - 1, true), (u0, true), (u0 + 1, false)] {
+            let case = with(&case, &[(26, loss_voltage)]);
+            let exact = Heating::of(&case, &Ends::of(&case).between([0; 4], 1));
+            assert_eq!(exact.dd.is_zero(), !counts, "{case:?}");
+            assert!(margins(&case, &rate(&case)).is_some(), "{case:?}");
+        }
+    }
+    // A rating without the loss is above the limit where it counts.
+    let higher = rate(&LOW_VOLTAGE);
+    assert!(margins(&with(&LOW_VOLTAGE, &[(26, 0)]), &higher).is_none());
 }
 
 #[test]

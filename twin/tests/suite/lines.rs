@@ -2,7 +2,7 @@
 
 use twin::lines::{answer_lines, read_line, Line};
 use twin::rating::{rate, Words};
-use twin::sample_cables::SL_TYPE;
+use twin::sample_cables::{with, LOW_VOLTAGE, SL_TYPE};
 
 fn answers(input: &[u8]) -> String {
     let mut output = Vec::new();
@@ -15,7 +15,7 @@ fn joined(case: &Words, separator: &str) -> String {
 }
 
 fn zeros_with(last: &str) -> String {
-    "0 ".repeat(25) + last
+    "0 ".repeat(29) + last
 }
 
 #[test]
@@ -31,7 +31,7 @@ fn a_case_is_answered_by_fifteen_numbers() {
     let spread = format!(" \t {}\t \r\n", joined(&SL_TYPE, "\t  "));
     assert_eq!(answers(spread.as_bytes()), expected);
     let zeros = format!("1{}\n", " 0".repeat(14));
-    assert_eq!(answers(b"0 0 0 0 0 0 0 0 0 0 0 0 0 0 0 0 0 0 0 0 0 0 0 0 0 0\n"), zeros);
+    assert_eq!(answers(b"0 0 0 0 0 0 0 0 0 0 0 0 0 0 0 0 0 0 0 0 0 0 0 0 0 0 0 0 0 0\n"), zeros);
 }
 
 #[test]
@@ -66,8 +66,8 @@ fn numbers_at_their_ends() {
         ("007", 7),
     ];
     for (text, word) in readable {
-        let mut case = [0; 26];
-        case[25] = word;
+        let mut case = [0; 30];
+        case[29] = word;
         assert_eq!(read_line(zeros_with(text).as_bytes()), Line::Case(case), "{text}");
     }
     let unreadable = [
@@ -98,19 +98,35 @@ fn numbers_at_their_ends() {
 
 #[test]
 fn too_few_and_too_many_numbers() {
-    assert_eq!(read_line("0 ".repeat(25).as_bytes()), Line::Unreadable);
-    assert_eq!(read_line("0 ".repeat(26).as_bytes()), Line::Case([0; 26]));
-    assert_eq!(read_line("0 ".repeat(27).as_bytes()), Line::Unreadable);
+    for count in (0..100).filter(|count| ![0, 26, 30].contains(count)) {
+        assert_eq!(read_line("0 ".repeat(count).as_bytes()), Line::Unreadable, "{count}");
+    }
+    for count in [26, 30] {
+        assert_eq!(read_line("0 ".repeat(count).as_bytes()), Line::Case([0; 30]));
+    }
+}
+
+/// A line of an older case is one of 30 numbers whose last four are zero.
+#[test]
+fn older_cases() {
+    let older = LOW_VOLTAGE[..26].iter().map(|word| word.to_string()).collect::<Vec<_>>();
+    assert_eq!(read_line(older.join(" ").as_bytes()), Line::Case(with(&LOW_VOLTAGE, &[(26, 0)])));
+    let zeros = older.join("\t") + " 0 0 0 0";
+    let lines = format!("{}\n{zeros}\n{}\n", older.join(" "), joined(&LOW_VOLTAGE, " "));
+    let said = answers(lines.as_bytes());
+    let said: Vec<&str> = said.lines().collect();
+    assert_eq!(said[0], said[1]);
+    assert_ne!(said[0], said[2]);
 }
 
 #[test]
 fn the_longest_line() {
     let case = zeros_with("0");
     let padded = |length: usize| format!("{case}{}", " ".repeat(length - case.len()));
-    assert_eq!(read_line(padded(1023).as_bytes()), Line::Case([0; 26]));
+    assert_eq!(read_line(padded(1023).as_bytes()), Line::Case([0; 30]));
     assert_eq!(read_line(padded(1024).as_bytes()), Line::Unreadable);
     // A carriage return is a byte of its line; only the line feed is not.
-    assert_eq!(read_line(format!("{}\r", padded(1022)).as_bytes()), Line::Case([0; 26]));
+    assert_eq!(read_line(format!("{}\r", padded(1022)).as_bytes()), Line::Case([0; 30]));
     assert_eq!(read_line(format!("{}\r", padded(1023)).as_bytes()), Line::Unreadable);
     // The length is tried first, for comments and blank lines too.
     assert_eq!(read_line(&[b'#'; 1023]), Line::Passed);

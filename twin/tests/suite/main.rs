@@ -5,6 +5,7 @@
 
 mod agreement;
 mod book;
+mod book_refusals;
 mod drawn_books;
 mod drawn_cases;
 mod drawn_lines;

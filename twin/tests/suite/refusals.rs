@@ -4,8 +4,8 @@
 use twin::edge_cases::pairs::{BRINGS, COMMON_BRINGS};
 use twin::rating::{current_refused, rate, Rated, Words};
 use twin::sample_cables::{
-    with, ALL, COMMON_ALUMINIUM_SHEATH, COMMON_SHEATH, FLAT, FLAT_SINGLE_POINT, SL_TYPE, TREFOIL,
-    TREFOIL_SINGLE_POINT,
+    with, ALL, COMMON_ALUMINIUM_SHEATH, COMMON_SHEATH, FLAT, FLAT_SINGLE_POINT, LOW_VOLTAGE,
+    SL_TYPE, TREFOIL, TREFOIL_SINGLE_POINT,
 };
 use twin::standard::Cable;
 
@@ -60,13 +60,13 @@ fn arrangement_and_conductor_ends() {
     for code in [0, 9, u32::MAX] {
         refused_with(&with(&TREFOIL, &[(1, code)]), 2);
     }
-    refused_with(&[0; 26], 1);
-    refused_with(&[u32::MAX; 26], 1);
+    refused_with(&[0; 30], 1);
+    refused_with(&[u32::MAX; 30], 1);
 }
 
-/// Just outside each limit of fields 2 to 25 in the SL cable, as document 01's
-/// table of fields has them.
-const JUST_OUTSIDE: [(usize, u32, u32); 24] = [
+/// Just outside each limit of fields 2 to 26 in the SL cable, as document 01's
+/// table of fields and document 02 have them.
+const JUST_OUTSIDE: [(usize, u32, u32); 25] = [
     (2, 999, 6501),
     (3, 3999, 25001),
     (4, TOO_COLD, 6001),
@@ -91,6 +91,7 @@ const JUST_OUTSIDE: [(usize, u32, u32); 24] = [
     (23, u32::MAX, 10_000_001),
     (24, u32::MAX, 10_000_001),
     (25, 9999, 20_000_001),
+    (26, u32::MAX, 300_001),
 ];
 
 fn limits_hold(cable: &Words, (field, below, above): (usize, u32, u32)) {
@@ -136,6 +137,33 @@ fn c_is_stray_only_in_single_core_cables() {
             assert_eq!(rate(&with(&base, &[(20, word)])).answer, number, "{word}");
         }
     }
+}
+
+#[test]
+fn fields_without_a_meaning_must_be_zero() {
+    for base in ALL.into_iter().chain([LOW_VOLTAGE]) {
+        for field in 27..30 {
+            for word in [1, 6, 5000, 300_000, COLD, u32::MAX] {
+                refused_with(&with(&base, &[(field, word)]), 4);
+            }
+        }
+    }
+}
+
+/// The low-voltage cable bears 144 mA more where its loss does not count.
+#[test]
+fn the_loss_counts_from_its_voltage_on() {
+    let with_loss = |volts, from| rate(&with(&LOW_VOLTAGE, &[(10, volts), (26, from)]));
+    let [at_zero, at_own, above] = [0, 600, 601].map(|from| with_loss(600, from));
+    assert_eq!(at_zero, at_own);
+    assert!(at_own.sheet[10] > 0 && at_own.sheet[11] > 0);
+    assert_eq!((above.sheet[10], above.sheet[11]), (0, 0));
+    assert_eq!((at_own.rating, above.rating), (280_511, 280_655));
+    // Without the loss it is the rating of a cable without a voltage.
+    assert_eq!(above, with_loss(0, 0));
+    assert_eq!(with_loss(600, 300_000), above);
+    assert_eq!(with_loss(6000, 6000).sheet[10], with_loss(6000, 0).sheet[10]);
+    assert_eq!(with_loss(5999, 6000), above);
 }
 
 #[test]

@@ -4,11 +4,12 @@ use Rattle.std.proofs.Common.{arith}
 use Rattle.std.specs.Prelude.{Bool, true, false, cond, List, ◌≡◌, ℕ, ◌+◌, ◌*◌, ◌≤◌, length}
 use Rattle.std.proofs.Math.Path.{refl}
 use Rattle.std.proofs.Common.{◌∙◌, suc-ne-zero}
+use Rattle.bools.proofs.Laws.Tests.{either}
 use Rattle.book_laws.specs.Layout.{Layout, record_length}
 use Rattle.book_laws.specs.Trailer.{describe_in}
 use Rattle.book_laws.specs.Record.{all_agree}
 use Rattle.book_laws.specs.Accept.{Acceptance, unaccepted, accept_after, accept_in, AcceptedIn}
-use Rattle.book_laws.proofs.Laws.Trailer.{described, either, on_book_on, on_book_by}
+use Rattle.book_laws.proofs.Laws.Trailer.{described, on_book_on, on_book_by}
 
 -- how large the count is, and that the note and the records are within the buffer
 pub record Counted (l : Layout) (b : List ℕ) (a : Acceptance) : Type 0 where
@@ -45,7 +46,7 @@ module _ (l : Layout) (b : List ℕ) (used : ℕ) where
       on_book_by (Counted l b) l b used _ (λ e. accept_after l e b)
       (λ none.
       let told = described l b used none in
-      either (Counted l b) (all_agree l b (describe_in l b used).first (describe_in l b used).count) _ _
+      either (Counted l b) (all_agree l b (describe_in l b used).first (describe_in l b used).count)
       (record { within = omega (arith, told.places, told.used_most); most = told.most })
       (none_counted 23 _))
       (λ given. none_counted (describe_in l b used).number _)

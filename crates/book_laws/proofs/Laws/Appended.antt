@@ -6,11 +6,12 @@ use Rattle.std.proofs.Math.Path.{refl, sym, ap}
 use Rattle.std.proofs.Common.{subst, ◌∙◌, arith, take-append-drop}
 use Rattle.std.proofs.Math.ListN.{length, take, length-append, get_or-append}
 use Rattle.std.proofs.lemmas.List.{get_or_at}
+use Rattle.bools.proofs.Laws.Tests.{either}
 use Rattle.splice.specs.Splice.{splice}
 use Rattle.splice.proofs.Laws.Splice.{splice_before}
 use Rattle.book_laws.specs.Bytes.{below}
 use Rattle.book_laws.specs.Layout.{Layout, record_length, trailer_length}
-use Rattle.book_laws.specs.Format.{fields_of, record_bytes, trailer_bytes}
+use Rattle.book_laws.specs.Format.{record_bytes, trailer_bytes, answered_fields}
 use Rattle.book_laws.specs.Trailer.{describe_in}
 use Rattle.book_laws.specs.Start.{Written, unwritten}
 use Rattle.book_laws.specs.Append.{append_after, append_in}
@@ -21,7 +22,7 @@ use Rattle.book_laws.specs.Built.{built_in, FitsIn, KeptIn}
 use Rattle.book_laws.specs.Appended.{AppendedIn}
 use Rattle.book_laws.proofs.Laws.Bytes.{below_splice, below_append}
 use Rattle.book_laws.proofs.Laws.Lawful.{Lawful}
-use Rattle.book_laws.proofs.Laws.Trailer.{described, either, on_book_each}
+use Rattle.book_laws.proofs.Laws.Trailer.{described, on_book_each}
 use Rattle.book_laws.proofs.Laws.Record.{record_bytes_bytes}
 use Rattle.book_laws.proofs.Laws.Built.{trailer_bytes_bytes}
 use Rattle.book_laws.proofs.Laws.Build.{all_cases_append, append_all_fits, append_all_fitted}
@@ -38,8 +39,8 @@ unfolding append_in append_after unwritten
 append_each P l b used x as-was with-record =
     let of_bytes : Written → Type 0 = λ w. P w.bytes in
     on_book_each of_bytes l b used _ _ as-was as-was as-was as-was
-    (either of_bytes (leb l.most (describe_in l b used).count) _ _ as-was
-    (either of_bytes (ltb (length b) (used + record_length l)) _ _ as-was with-record))
+    (either of_bytes (leb l.most (describe_in l b used).count) as-was
+    (either of_bytes (ltb (length b) (used + record_length l)) as-was with-record))
 
 module _ {l : Layout} (lawful : Lawful l) (b : List ℕ) (used : ℕ) (bytes : below 256 b ≡ true) (fine : AcceptedIn l b used) where
   abbrev note : ℕ
@@ -92,7 +93,7 @@ module _ {l : Layout} (lawful : Lawful l) (b : List ℕ) (used : ℕ) (bytes : b
       let kept = cases_kept (x ∷ []) is_a_case none in
       let n_is = cases_at_length l b note count in
       let more_is : length (cases ++ (x ∷ [])) ≡ count + 1 = length-append cases (x ∷ []) ∙ ap (λ (n : ℕ). n + 1) n_is in
-      let fields : List ℕ → Fields = λ y. record { number = 0; fields = fields_of l y } in
+      let fields : List ℕ → Fields = λ y. record { number = 0; fields = answered_fields l y } in
       record {
         used_is = kept.used ∙ omega (arith, ap (λ (n : ℕ). record_length l * n) more_is, (described l b used fine.trailer_right).places);
         accepted = kept.accepted ∙ ap (λ (n : ℕ). record { number = 0; count = n; note = note; named = 0 }) more_is;

@@ -5,14 +5,14 @@ use Rattle.std.proofs.lemmas.Bool.{eqb-false, lt-leb}
 use Rattle.std.specs.Prelude.{Bool, ◌≡◌, length, take}
 use Rattle.std.proofs.Math.Bool.{true, false, ◌&&◌}
 use Rattle.std.proofs.Math.Path.{refl, sym, ap, ap₂}
-use Rattle.std.proofs.Common.{◌∙◌, arith, take_at}
+use Rattle.std.proofs.Common.{◌∙◌, arith, append_assoc, take_at}
 use Rattle.std.proofs.Math.Numerals.{add-one}
 use Rattle.std.proofs.Math.Dec.{eqb}
 use Rattle.std.proofs.Math.ListN.{get_or, length-append, get_or-append}
 use Rattle.std.proofs.Math.Seq.{get_or_at}
 use Rattle.book_laws.specs.Bytes.{word_at, words_at, below}
-use Rattle.book_laws.specs.Layout.{Layout, record_fields}
-use Rattle.book_laws.specs.Format.{fields_of}
+use Rattle.book_laws.specs.Layout.{Layout, missing}
+use Rattle.book_laws.specs.Format.{all_fields, answered_fields}
 use Rattle.book_laws.specs.Trailer.{describe_in}
 use Rattle.book_laws.specs.Record.{place_from, case_at, answer_at, rating_at}
 use Rattle.book_laws.specs.Read.{Fields, read_after, read_in, cases_read_in}
@@ -20,7 +20,7 @@ use Rattle.book_laws.specs.Accept.{AcceptedIn}
 use Rattle.book_laws.specs.Build.{all_cases}
 use Rattle.book_laws.proofs.Laws.Bytes.{number_at_below, words_at_length}
 use Rattle.book_laws.proofs.Laws.Trailer.{on_book_on}
-use Rattle.book_laws.proofs.Laws.Record.{fields_are, agreed_fields, all_agree_each}
+use Rattle.book_laws.proofs.Laws.Record.{agreed_stored, stored_fields, all_agree_each}
 use Rattle.book_laws.proofs.Laws.Build.{all_cases_append}
 
 unfoldable pub cases_at : Layout → List ℕ → ℕ → ℕ → List (List ℕ)
@@ -70,36 +70,34 @@ module _ (l : Layout) (b : List ℕ) (used i : ℕ) (is_record : i < (describe_i
   abbrev place : ℕ
   place = place_from l first i
 
-  fields_stand : (describe_in l b used).number ≡ 0 → read_in l b used i ≡ record { number = 0; fields = words_at b place (record_fields l) }
-  unfolding read_in read_after
-  fields_stand none = on_book_on l b used _ _ refl none ∙ simp (lt-leb (describe_in l b used).count i is_record)
-
   -- `read` answers the case, the answer and the rating, judged or not
   pub as_read_in :
       (describe_in l b used).number ≡ 0 →
-      read_in l b used i ≡ record { number = 0; fields = case_at l b place ++ (answer_at l b place ∷ rating_at l b place ∷ []) }
-  as_read_in none = fields_stand none ∙ ap (λ (f : List ℕ). record { number = 0; fields = f }) (fields_are l b place)
+      read_in l b used i ≡ record { number = 0; fields = all_fields l (case_at l b place) (answer_at l b place) (rating_at l b place) }
+  unfolding read_in read_after
+  as_read_in none = on_book_on l b used _ _ refl none ∙ simp (lt-leb (describe_in l b used).count i is_record)
 
   -- in an accepted book they are the answer and the rating of the case
   pub cases_as_read_in :
       AcceptedIn l b used →
-      read_in l b used i ≡ record { number = 0; fields = fields_of l (get_or (cases_at l b first (describe_in l b used).count) i []) }
+      read_in l b used i ≡ record { number = 0; fields = answered_fields l (get_or (cases_at l b first (describe_in l b used).count) i []) }
   cases_as_read_in fine =
-      let agreed = all_agree_each l b first _ i fine.records_agree is_record in
-      fields_stand fine.trailer_right
+      let is = agreed_stored l b place (all_agree_each l b first _ i fine.records_agree is_record) in
+      as_read_in fine.trailer_right
       ∙ ap (λ (f : List ℕ). record { number = 0; fields = f })
-      (agreed_fields l b place agreed ∙ ap (fields_of l) (sym (cases_at_at l b first _ i is_record)))
+      (stored_fields l b place _ is ∙ ap (answered_fields l) (sym (cases_at_at l b first _ i is_record)))
 
 -- the cases that `read` answers are those of the records that stand there
 pub cases_read :
     (l : Layout) (b : List ℕ) (used : ℕ) → (describe_in l b used).number ≡ 0 → (n : ℕ) → n ≤ (describe_in l b used).count →
     cases_read_in l b used n ≡ cases_at l b (describe_in l b used).first n
-unfolding cases_read_in cases_at
+unfolding cases_read_in cases_at all_fields
 cases_read l b used none zero h = refl
 cases_read l b used none (suc n) h =
     let at = place_from l (describe_in l b used).first n in
     let fields_are = ap (λ (f : Fields). f.fields) (as_read_in l b used n (omega arith) none) in
     let case_is : take l.inputs (read_in l b used n).fields ≡ case_at l b at =
-    ap (take l.inputs) fields_are ∙ take_at (case_at l b at) _ l.inputs (words_at_length b at l.inputs)
+    ap (take l.inputs) (fields_are ∙ append_assoc (case_at l b at) (missing l) _)
+    ∙ take_at (case_at l b at) _ l.inputs (words_at_length b at l.inputs)
     in
     ap₂ (λ (xs : List (List ℕ)) (x : List ℕ). xs ++ (x ∷ [])) (cases_read l b used none n (omega arith)) case_is

@@ -7,11 +7,11 @@ use Rattle.std.proofs.Common.{◌∙◌}
 use Rattle.bools.specs.First.{or_refused}
 use Rattle.bools.proofs.Laws.First.{or_refused_append}
 use Rattle.splice.specs.Splice.{splice}
-use Rattle.book_laws.specs.Bytes.{stands, words_at}
-use Rattle.book_laws.specs.Layout.{Layout, record_fields, record_length, trailer_length}
-use Rattle.book_laws.specs.Format.{record_bytes, trailer_bytes, count_at, distance_at, length_at}
+use Rattle.book_laws.specs.Bytes.{stands}
+use Rattle.book_laws.specs.Layout.{Layout, record_length, trailer_length}
+use Rattle.book_laws.specs.Format.{record_bytes, all_fields, trailer_bytes, count_at, distance_at, length_at}
 use Rattle.book_laws.specs.Trailer.{Description, undescribed, wrong_trailer, describe_at, describe_in, on_book_in}
-use Rattle.book_laws.specs.Record.{place_from, all_agree, first_disagreeing}
+use Rattle.book_laws.specs.Record.{place_from, case_at, answer_at, rating_at, all_agree, first_disagreeing}
 use Rattle.book_laws.specs.Start.{unwritten, start_in}
 use Rattle.book_laws.specs.Append.{append_after, append_in}
 use Rattle.book_laws.specs.Read.{unread, read_after, read_in}
@@ -81,13 +81,14 @@ module _ (l : Layout) (b : List ℕ) (used : ℕ) where
 
   pub read_by_refusals :
       (index : ℕ) →
+      let at = place_from l (trailer_of l b used).first index in
       read_in l b used index
-      ≡ or_refused (unread l) (read_refusals l b used index)
-      (record { number = 0; fields = words_at b (place_from l (trailer_of l b used).first index) (record_fields l) })
+      ≡ or_refused unread (read_refusals l b used index)
+      (record { number = 0; fields = all_fields l (case_at l b at) (answer_at l b at) (rating_at l b at) })
   unfolding or_refused read_refusals read_in read_after
   read_by_refusals index =
-      on_book_by_refusals (unread l) (λ e. read_after l e b index) l b used
-      ∙ sym (or_refused_append (unread l) (trailer_refusals l b used) _ _)
+      on_book_by_refusals unread (λ e. read_after l e b index) l b used
+      ∙ sym (or_refused_append unread (trailer_refusals l b used) _ _)
 
   -- 23 names the first record that disagrees, the others none
   abbrev unaccepted_by : ℕ → Acceptance

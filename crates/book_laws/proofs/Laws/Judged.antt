@@ -1,8 +1,15 @@
--- What accept answers to a book whose records are all of one case, by what that case's answer and rating are. `rate_of` is shut, so that
--- the closed instances of accept come from it and from a theorem about the case. Assumes nothing.
-use Rattle.std.specs.Prelude.{Bool, true, cond, not, ◌&&◌, List, [], ◌∷◌, ℕ, ◌+◌, eqb, length, get_or}
+-- A book of one record, and what accept answers to a book whose records are all of one case, by what that case's answer and rating are.
+-- `rate_of` is shut, so that the closed instances of accept come from it and from a theorem about the case. Assumes nothing.
+use Rattle.std.specs.Prelude.{Bool, true, cond, not, ◌&&◌, List, [], ◌∷◌, ◌++◌, ℕ, ◌+◌, eqb, length, get_or, take}
 use Rattle.bools.specs.Earliest.{earliest}
+use Rattle.book_laws.specs.Bytes.{words_bytes}
+use Rattle.book_laws.specs.Layout.{Layout}
+use Rattle.book_laws.specs.Format.{trailer_bytes}
 use Rattle.book_laws.specs.Accept.{Acceptance, unaccepted}
+
+-- of a layout, without a note: the inputs of the case x that it stores, this number and this rating
+abbrev pub one_record : Layout → List ℕ → (number rating : ℕ) → List ℕ
+one_record l x number rating = words_bytes (take l.inputs x ++ (number ∷ rating ∷ [])) ++ trailer_bytes l 1
 
 -- a record with this number and this rating, of a case whose answer is n and whose rating is i
 abbrev pub as_rated : (number rating n i : ℕ) → Bool

@@ -8,7 +8,7 @@ use Rattle.std.proofs.lemmas.Bool.{lt-leb}
 use Rattle.splice.proofs.Laws.Splice.{splice_before, splice_past}
 use Rattle.book_laws.specs.Bytes.{words_at}
 use Rattle.book_laws.specs.Layout.{Layout, record_fields, record_length}
-use Rattle.book_laws.specs.Format.{fields_of, records_bytes}
+use Rattle.book_laws.specs.Format.{fields_of, records_bytes, answered_fields}
 use Rattle.book_laws.specs.Record.{place_from, all_agree}
 use Rattle.book_laws.specs.Read.{read_after, read_in}
 use Rattle.book_laws.specs.Accept.{accept_after, accept_in}
@@ -17,7 +17,7 @@ use Rattle.book_laws.specs.Built.{book_bytes, used_for, built_in, FitsIn, KeptIn
 use Rattle.book_laws.proofs.Laws.Bytes.{words_at_skip}
 use Rattle.book_laws.proofs.Laws.Lawful.{Lawful}
 use Rattle.book_laws.proofs.Laws.Trailer.{on_book_on}
-use Rattle.book_laws.proofs.Laws.Record.{all_cases_at, records_read, fields_agree, all_agree_all}
+use Rattle.book_laws.proofs.Laws.Record.{Stored, stored, stored_agrees, stored_fields, all_cases_at, records_read, all_agree_all}
 use Rattle.book_laws.proofs.Laws.Built.{whole, after_records, in_parts, book_bytes_length, note_length, built_length, built_described}
 use Rattle.book_laws.proofs.Laws.Build.{build_in_fits, build_in_fitted}
 
@@ -28,8 +28,8 @@ module _ {l : Layout} (lawful : Lawful l) (b : List ℕ) (note : ℕ) (xs : List
     abbrev book : List ℕ
     book = whole l b note xs
 
-    record_stands : (i : ℕ) → i < length xs → words_at book (place_from l note i) (record_fields l) ≡ fields_of l (get_or xs i [])
-    record_stands i h =
+    fields_stand : (i : ℕ) → i < length xs → words_at book (place_from l note i) (record_fields l) ≡ fields_of l (get_or xs i [])
+    fields_stand i h =
         let place : place_from l note i ≡ length (take note b) + record_length l * i =
         omega (arith, note_length lawful b note xs cases fit)
         in
@@ -38,18 +38,22 @@ module _ {l : Layout} (lawful : Lawful l) (b : List ℕ) (note : ℕ) (xs : List
         ∙ words_at_skip (take note b) (records_bytes l xs ++ after) (record_length l * i) (record_fields l)
         ∙ records_read lawful xs after i cases h
 
+    record_stands : (i : ℕ) → i < length xs → Stored l book (place_from l note i) (get_or xs i [])
+    record_stands i h =
+        stored l book (place_from l note i) (get_or xs i []) (all_cases_at l xs i cases h).size (fields_stand i h)
+
     built_reads :
         (i : ℕ) → i < length xs →
-        read_in l book (used_for l note (length xs)) i ≡ record { number = 0; fields = fields_of l (get_or xs i []) }
+        read_in l book (used_for l note (length xs)) i ≡ record { number = 0; fields = answered_fields l (get_or xs i []) }
     unfolding read_in read_after
     built_reads i h =
         on_book_on l book (used_for l note (length xs)) _ _ (sym (built_described lawful b note xs cases fit)) refl
-        ∙ simp (lt-leb (length xs) i h, record_stands i h)
+        ∙ simp (lt-leb (length xs) i h, stored_fields l book (place_from l note i) (get_or xs i []) (record_stands i h))
 
     built_agrees : all_agree l book note (length xs) ≡ true
     built_agrees =
         all_agree_all l book note (length xs)
-        (λ i h. fields_agree l book (place_from l note i) (get_or xs i []) (all_cases_at l xs i cases h).size (record_stands i h))
+        (λ i h. stored_agrees l book (place_from l note i) (get_or xs i []) (record_stands i h))
 
     built_accepted : accept_in l book (used_for l note (length xs)) ≡ record { number = 0; count = length xs; note = note; named = 0 }
     unfolding accept_in accept_after

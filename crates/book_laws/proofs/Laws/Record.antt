@@ -10,12 +10,12 @@ use Rattle.std.proofs.Math.Dec.{eqb}
 use Rattle.bools.proofs.Laws.Tests.{both}
 use Rattle.book_laws.specs.Bytes.{word_at, words_at, words_bytes, below}
 use Rattle.book_laws.specs.Layout.{Layout, record_fields, record_length}
-use Rattle.book_laws.specs.Format.{fields_of, record_bytes, records_bytes}
+use Rattle.book_laws.specs.Format.{fields_of, record_bytes, records_bytes, all_fields, answered_fields}
 use Rattle.book_laws.specs.Record.{place_from, case_at, answer_at, rating_at, agrees, all_agree}
 use Rattle.book_laws.specs.Build.{all_cases}
 use Rattle.book_laws.proofs.Laws.Bytes.{below_append, words_bytes_length, words_bytes_bytes, words_at_length, words_at_add}
 use Rattle.book_laws.proofs.Laws.Bytes.{words_at_skip, words_at_written}
-use Rattle.book_laws.proofs.Laws.Lawful.{Lawful}
+use Rattle.book_laws.proofs.Laws.Lawful.{Lawful, number_of, rating_of}
 
 -- a case of the layout: as many words of 32 bits as it stores
 pub record Case (l : Layout) (x : List ℕ) : Type 0 where
@@ -69,8 +69,8 @@ records_bytes_append l (x ∷ xs) ys =
 fields_of_words : {l : Layout} → Lawful l → (x : List ℕ) → below 4294967296 x ≡ true → below 4294967296 (fields_of l x) ≡ true
 unfolding fields_of below
 fields_of_words {l} lawful x words =
-    let number_is_word = lt-ltb (l.rule x).number 4294967296 (lawful.number_fits x) in
-    let rating_is_word = lt-ltb (l.rule x).rating 4294967296 (lawful.rating_fits x) in
+    let number_is_word = lt-ltb (l.rule x).number 4294967296 (number_of lawful x) in
+    let rating_is_word = lt-ltb (l.rule x).rating 4294967296 (rating_of lawful x) in
     below_append 4294967296 x _ words (ap₂ (λ (s t : Bool). s && (t && true)) number_is_word rating_is_word)
 
 -- and it is written in bytes
@@ -117,12 +117,18 @@ fields_are l b at =
     words_at_add b at l.inputs 2
     ∙ ap (λ (k : ℕ). words_at b at l.inputs ++ (word_at b (at + 4 * l.inputs) ∷ word_at b k ∷ [])) last
 
--- a record that has the fields of a case agrees
-pub fields_agree :
+-- the record at `at` is that of the case x
+pub record Stored (l : Layout) (b : List ℕ) (at : ℕ) (x : List ℕ) : Type 0 where
+  pub case_is : case_at l b at ≡ x
+  pub answer_is : answer_at l b at ≡ (l.rule x).number
+  pub rating_is : rating_at l b at ≡ (l.rule x).rating
+
+-- where the fields of the case stand
+pub stored :
     (l : Layout) (b : List ℕ) (at : ℕ) (x : List ℕ) → length x ≡ l.inputs → words_at b at (record_fields l) ≡ fields_of l x →
-    agrees l b at ≡ true
-unfolding fields_of agrees
-fields_agree l b at x size e =
+    Stored l b at x
+unfolding fields_of
+stored l b at x size e =
     let a = l.rule x in
     let same = sym (fields_are l b at) ∙ e in
     let case_size = words_at_length b at l.inputs in
@@ -132,27 +138,39 @@ fields_agree l b at x size e =
     let rest : answer_at l b at ∷ rating_at l b at ∷ [] ≡ a.number ∷ a.rating ∷ [] =
     sym (drop_at (case_at l b at) _ l.inputs case_size) ∙ ap (drop l.inputs) same ∙ drop_at x _ l.inputs size
     in
-    let number_is = ap (λ (t : List ℕ). get_or t 0 0) rest in
-    let rating_is = ap (λ (t : List ℕ). get_or t 1 0) rest in
-    rw case_is (ap₂ ◌&&◌ (eq-eqb (answer_at l b at) a.number number_is) (eq-eqb (rating_at l b at) a.rating rating_is))
+    record {
+      case_is = case_is;
+      answer_is = ap (λ (t : List ℕ). get_or t 0 0) rest;
+      rating_is = ap (λ (t : List ℕ). get_or t 1 0) rest;
+    }
 
--- a record that agrees has the answer and the rating of its case
-pub record Judged (l : Layout) (b : List ℕ) (at : ℕ) : Type 0 where
-  pub answer_is : answer_at l b at ≡ (l.rule (case_at l b at)).number
-  pub rating_is : rating_at l b at ≡ (l.rule (case_at l b at)).rating
-
-pub judged : (l : Layout) (b : List ℕ) (at : ℕ) → agrees l b at ≡ true → Judged l b at
+-- then it agrees
+pub stored_agrees : (l : Layout) (b : List ℕ) (at : ℕ) (x : List ℕ) → Stored l b at x → agrees l b at ≡ true
 unfolding agrees
-judged l b at e =
+stored_agrees l b at x is =
+    rw is.case_is
+    (ap₂ ◌&&◌ (eq-eqb (answer_at l b at) (l.rule x).number is.answer_is) (eq-eqb (rating_at l b at) (l.rule x).rating is.rating_is))
+
+-- a record that agrees is that of its case
+pub agreed_stored : (l : Layout) (b : List ℕ) (at : ℕ) → agrees l b at ≡ true → Stored l b at (case_at l b at)
+unfolding agrees
+agreed_stored l b at e =
     let a = l.rule (case_at l b at) in
     let split = both (eqb (answer_at l b at) a.number) (eqb (rating_at l b at) a.rating) e in
-    record { answer_is = eqb-true _ _ split.0; rating_is = eqb-true _ _ split.1 }
+    record { case_is = refl; answer_is = eqb-true _ _ split.0; rating_is = eqb-true _ _ split.1 }
+
+-- and `read` answers its case, with zeros for the inputs that are not stored, its answer and its rating
+pub stored_fields :
+    (l : Layout) (b : List ℕ) (at : ℕ) (x : List ℕ) → Stored l b at x →
+    all_fields l (case_at l b at) (answer_at l b at) (rating_at l b at) ≡ answered_fields l x
+unfolding answered_fields
+stored_fields l b at x is = rw (is.case_is, is.answer_is, is.rating_is) refl
 
 pub agreed_fields : (l : Layout) (b : List ℕ) (at : ℕ) → agrees l b at ≡ true →
     words_at b at (record_fields l) ≡ fields_of l (case_at l b at)
 unfolding fields_of
 agreed_fields l b at e =
-    let is = judged l b at e in
+    let is = agreed_stored l b at e in
     fields_are l b at ∙ ap₂ (λ (n i : ℕ). case_at l b at ++ (n ∷ i ∷ [])) is.answer_is is.rating_is
 
 -- The first n records agree where each does.

@@ -4,14 +4,16 @@ use Rattle.std.specs.Prelude.{List, [], ◌∷◌, ◌⊎◌, ◌≡◌, ℕ, �
 use Rattle.std.proofs.Common.{inl, arith}
 use Rattle.std.proofs.Math.Logic.{inr}
 use Rattle.std.proofs.Math.Path.{refl}
-use Rattle.book_laws.specs.Layout.{Layout, record_fields, record_length, trailer_length}
+use Rattle.bools.proofs.Laws.Tests.{either, either_by}
+use Rattle.fields.specs.Fields.{width}
+use Rattle.book_laws.specs.Layout.{Layout, record_length, trailer_length}
 use Rattle.book_laws.specs.Trailer.{describe_in}
 use Rattle.book_laws.specs.Record.{all_agree}
 use Rattle.book_laws.specs.Start.{Written, unwritten, start_in}
 use Rattle.book_laws.specs.Append.{append_after, append_in}
 use Rattle.book_laws.specs.Read.{Fields, unread, read_after, read_in}
 use Rattle.book_laws.specs.Accept.{Acceptance, unaccepted, accept_after, accept_in, DisagreesFirstIn}
-use Rattle.book_laws.proofs.Laws.Trailer.{either, either_by, on_book_each}
+use Rattle.book_laws.proofs.Laws.Trailer.{on_book_each}
 use Rattle.book_laws.proofs.Laws.Disagreeing.{named_first}
 
 -- n is one of the numbers
@@ -25,10 +27,10 @@ pub record Unwritten (b : List ℕ) (w : Written) : Type 0 where
   pub no_length : w.used ≡ 0
   pub bytes_stay : w.bytes ≡ b
 
--- of read, where a record has n fields
-pub record Unread (n : ℕ) (f : Fields) : Type 0 where
+-- of read
+pub record Unread (f : Fields) : Type 0 where
   pub number_is : OneOf (20 ∷ 21 ∷ 22 ∷ 26 ∷ []) f.number
-  pub zeros : f.fields ≡ replicate n 0
+  pub zeros : f.fields ≡ replicate (width + 2) 0
 
 -- of accept: 23 names the first record that disagrees, the others name none
 pub record Unaccepted (l : Layout) (b : List ℕ) (used : ℕ) (a : Acceptance) : Type 0 where
@@ -43,7 +45,7 @@ module _ (l : Layout) (b : List ℕ) where
   unfolding start_in unwritten
   start_in_refused note =
       either (λ (w : Written). (w.number ≡ 0 → ⊥) → w ≡ record { number = 24; used = 0; bytes = b })
-      (ltb (length b) (note + trailer_length l)) (unwritten 24 b) _
+      (ltb (length b) (note + trailer_length l))
       (λ given. refl)
       (λ given. absurd (given refl))
 
@@ -58,17 +60,17 @@ module _ (l : Layout) (b : List ℕ) where
       in
       on_book_each P l b used _ _ (λ given. absurd (given refl)) (leaves 20 (inl refl)) (leaves 21 (inr (inl refl)))
       (leaves 22 (inr (inr (inl refl))))
-      (either P (leb l.most d.count) _ _ (leaves 25 (inr (inr (inr (inr (inl refl))))))
-      (either P (ltb (length b) (used + record_length l)) _ _ (leaves 24 (inr (inr (inr (inl refl))))) (λ given. absurd (given refl))))
+      (either P (leb l.most d.count) (leaves 25 (inr (inr (inr (inr (inl refl))))))
+      (either P (ltb (length b) (used + record_length l)) (leaves 24 (inr (inr (inr (inl refl))))) (λ given. absurd (given refl))))
 
-  pub read_in_refused : (used i : ℕ) → ((read_in l b used i).number ≡ 0 → ⊥) → Unread (record_fields l) (read_in l b used i)
+  pub read_in_refused : (used i : ℕ) → ((read_in l b used i).number ≡ 0 → ⊥) → Unread (read_in l b used i)
   unfolding read_in read_after unread
   read_in_refused used i =
-      let P : Fields → Type 0 = λ f. (f.number ≡ 0 → ⊥) → Unread (record_fields l) f in
-      let leaves : (n : ℕ) → OneOf (20 ∷ 21 ∷ 22 ∷ 26 ∷ []) n → P (unread l n) = λ n is given. record { number_is = is; zeros = refl } in
+      let P : Fields → Type 0 = λ f. (f.number ≡ 0 → ⊥) → Unread f in
+      let leaves : (n : ℕ) → OneOf (20 ∷ 21 ∷ 22 ∷ 26 ∷ []) n → P (unread n) = λ n is given. record { number_is = is; zeros = refl } in
       on_book_each P l b used _ _ (λ given. absurd (given refl)) (leaves 20 (inl refl)) (leaves 21 (inr (inl refl)))
       (leaves 22 (inr (inr (inl refl))))
-      (either P (leb (describe_in l b used).count i) _ _ (leaves 26 (inr (inr (inr (inl refl))))) (λ given. absurd (given refl)))
+      (either P (leb (describe_in l b used).count i) (leaves 26 (inr (inr (inr (inl refl))))) (λ given. absurd (given refl)))
 
   pub accept_in_refused : (used : ℕ) → ((accept_in l b used).number ≡ 0 → ⊥) → Unaccepted l b used (accept_in l b used)
   unfolding accept_in accept_after unaccepted
@@ -87,7 +89,7 @@ module _ (l : Layout) (b : List ℕ) where
       on_book_each P l b used _ _ (λ given. absurd (given refl)) (leaves 20 (inl refl) (λ e. omega arith))
       (leaves 21 (inr (inl refl)) (λ e. omega arith))
       (leaves 22 (inr (inr (inl refl))) (λ e. omega arith))
-      (either_by P (all_agree l b d.first d.count) _ _
+      (either_by P (all_agree l b d.first d.count)
       (λ all given. absurd (given refl))
       (λ not_all given. record {
         number_is = inr (inr (inr (inl refl)));

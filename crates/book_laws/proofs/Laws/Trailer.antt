@@ -2,7 +2,7 @@
 use Rattle.std.specs.Prelude.{Bool, true, false, cond, not, List, ◌≡◌, refl, ℕ, ◌+◌, ◌-◌, ◌*◌, ◌≤◌, eqb, ltb, length}
 use Rattle.std.proofs.Common.{sym, ap, ◌∙◌, suc-ne-zero, arith, lit≤, ltb-false, eqb-true, eq-eqb, ne_eqb}
 use Rattle.std.proofs.lemmas.Bool.{eqb-false, not-false}
-use Rattle.bools.proofs.Laws.Tests.{neither, by_outcome, passed}
+use Rattle.bools.proofs.Laws.Tests.{neither, either, passed}
 use Rattle.book_laws.specs.Bytes.{stands}
 use Rattle.book_laws.specs.Layout.{Layout, record_length, trailer_length}
 use Rattle.book_laws.specs.Format.{count_at, distance_at, length_at}
@@ -68,16 +68,6 @@ described l b used e =
       size_is = fields.size_is;
     }
 
--- what holds of each answer of a test, where it is chosen, holds of the one that is
-pub either_by :
-    {A : Type 0} (P : A → Type 0) (given : Bool) (refusal rest : A) → (given ≡ true → P refusal) → (given ≡ false → P rest) →
-    P (cond given refusal rest)
-either_by P given refusal rest = by_outcome (λ t. P (cond t refusal rest)) given
-
--- what holds of both answers of a test holds of the one that is chosen
-pub either : {A : Type 0} (P : A → Type 0) (given : Bool) (refusal rest : A) → P refusal → P rest → P (cond given refusal rest)
-either P given refusal rest of_refusal of-rest = either_by P given refusal rest (λ e. of_refusal) (λ e. of-rest)
-
 -- 20, 21 and 22 are the numbers that a trailer is refused by
 pub describe_number :
     (P : ℕ → Type 0) → P 0 → P 20 → P 21 → P 22 → (l : Layout) (b : List ℕ) (used : ℕ) → P (describe_in l b used).number
@@ -85,10 +75,10 @@ unfolding describe_in describe_at undescribed
 describe_number P none is-20 is-21 is-22 l b used =
     let at = used - trailer_length l in
     let of_number : Description → Type 0 = λ d. P d.number in
-    either of_number (ltb (length b) used) _ _ is-20
-    (either of_number (ltb used (trailer_length l)) _ _ is-21
-    (either of_number (not (stands l.mark b at)) _ _ is-21
-    (either of_number (wrong_trailer l at (count_at l b at) (distance_at l b at) (length_at l b at)) _ _ is-22 none)))
+    either of_number (ltb (length b) used) is-20
+    (either of_number (ltb used (trailer_length l)) is-21
+    (either of_number (not (stands l.mark b at)) is-21
+    (either of_number (wrong_trailer l at (count_at l b at) (distance_at l b at) (length_at l b at)) is-22 none)))
 
 pub describe_most : (l : Layout) (b : List ℕ) (used : ℕ) → (describe_in l b used).number ≤ 22
 describe_most = describe_number (λ n. n ≤ 22) (lit≤ tt) (lit≤ tt) (lit≤ tt) (lit≤ tt)

@@ -21,6 +21,21 @@ pub by_outcome : (P : Bool → Type 0) (t : Bool) → (t ≡ true → P true) �
 by_outcome P true if-true if-false = if-true refl
 by_outcome P false if-true if-false = if-false refl
 
+-- what holds of each answer of a test, where it is chosen, holds of the one that is
+pub either_by : {A : Type 0} (P : A → Type 0) (t : Bool) {a b : A} → (t ≡ true → P a) → (t ≡ false → P b) → P (cond t a b)
+either_by P t {a} {b} = by_outcome (λ u. P (cond u a b)) t
+
+-- what holds of both answers of a test holds of the one that is chosen
+pub either : {A : Type 0} (P : A → Type 0) (t : Bool) {a b : A} → P a → P b → P (cond t a b)
+either P true of-a of-b = of-a
+either P false of-a of-b = of-b
+
+-- and of two that one test chooses
+pub either_both :
+    {A B : Type 0} (P : A → B → Type 0) (t : Bool) {a b : A} {a' b' : B} → P a a' → P b b' → P (cond t a b) (cond t a' b')
+either_both P true of-a of-b = of-a
+either_both P false of-a of-b = of-b
+
 -- no test has both outcomes
 pub other_outcome : {A : Type 0} (t : Bool) → t ≡ false → t ≡ true → A
 other_outcome t f e = absurd (false≢true (sym f ∙ e))

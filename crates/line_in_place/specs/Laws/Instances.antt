@@ -43,7 +43,7 @@ row : Row chunk 0 2 1 (7 ∷ [])
 unfolding is_blank
 row = row_more (row_none chunk 0) seven refl
 
-line : PlainLine 2 chunk 0 5 (7 ∷ 4294967295 ∷ [])
+line : PlainLine chunk 0 5 (7 ∷ 4294967295 ∷ [])
 line = row_ends row minus_one (lit< tt) 5 (lit< tt) refl refl
 
 whole : Some (line_of 5 (read_line (piece 0 5 chunk))) ≡ standing chunk 0

@@ -1,5 +1,5 @@
 -- A row of numbers in a chunk, with one blank after each: how it goes on by one number, that with a last number and the line's end it is
--- a line that says a case, and which case. Assumes nothing.
+-- a line of its numbers. Assumes nothing.
 use Rattle.std.proofs.Common.{List, [], ◌∷◌, ◌++◌, append_assoc, append-nil, ℕ, suc, ◌+◌, ◌-◌, ◌≤◌, ◌<◌, arith}
 use Rattle.std.specs.Prelude.{Bool, true, false, cond, ◌≡◌, eqb, Option}
 use Rattle.std.proofs.Math.Path.{refl, sym, ap}
@@ -11,7 +11,7 @@ use Rattle.line_in_place.specs.Laws.Standing.{line_ends}
 use Rattle.text.specs.Laws.After.{after, after_one, after_none}
 use Rattle.text.specs.declared.line.Said.TheVariants.{Case}
 use Rattle.text.specs.Gather.{is_in_line, piece}
-use Rattle.text.specs.Line.{field, fields, longest_line, read_line_of}
+use Rattle.text.specs.Line.{case_of, field, fields, longest_line, read_line}
 use Rattle.text.specs.Number.{is_digit, every, is_numeral}
 use Rattle.text.specs.Laws.Number.{every_append, every_weaker, differ}
 use Rattle.text.specs.Laws.Pieces.{piece_none, piece_more, piece_join, piece_length}
@@ -44,13 +44,13 @@ plain_in_line : (b : ℕ) → is_plain b ≡ true → is_in_line b ≡ true
 unfolding is_plain is_numeral is_digit is_blank is_in_line
 plain_in_line b h = simp (ne_eqb b 10 (differ is_plain b 10 h refl))
 
-is_line : {n : ℕ} {s : List ℕ} {from : ℕ} {xs : List ℕ} (to : ℕ) (line : List ℕ) → piece from to s ≡ line → every is_in_line line ≡ true
-    → from ≤ to → to < length s → get_or s to 0 ≡ 10 → read_line_of n line ≡ Case xs → PlainLine n s from to xs
-is_line {n} {s} {from} to line bytes none forward inside feed says =
+is_line : {s : List ℕ} {from : ℕ} {xs : List ℕ} (to : ℕ) (line : List ℕ) → piece from to s ≡ line → every is_in_line line ≡ true
+    → from ≤ to → to < length s → get_or s to 0 ≡ 10 → read_line line ≡ case_of xs → PlainLine s from to xs
+is_line {s} {from} to line bytes none forward inside feed says =
     record {
       inside = inside;
       end = line_ends s from to forward inside (ap (every is_in_line) bytes ∙ none) feed;
-      says = ap (read_line_of n) bytes ∙ says;
+      says = ap read_line bytes ∙ says;
     }
 
 -- a row, and a number after it
@@ -129,13 +129,13 @@ module _ {s : List ℕ} {from at i : ℕ} {xs : List ℕ} (row : Row s from at i
     some : 0 < length line
     some = omega (arith, size, forward)
 
-    ends_at_feed : end ≡ to → PlainLine (suc i) s from end (xs ++ (x ∷ []))
+    ends_at_feed : end ≡ to → PlainLine s from end (xs ++ (x ∷ []))
     unfolding line
     ends_at_feed e =
         is_line end line (ap (λ (n : ℕ). piece from n s) e) line_in_line (omega (arith, forward)) inside feed
         (plain_case line some line_plain i (xs ++ (x ∷ [])) says_row (omega (arith, size)))
 
-    ends_at_return : get_or s to 0 ≡ 13 → end ≡ to + 1 → PlainLine (suc i) s from end (xs ++ (x ∷ []))
+    ends_at_return : get_or s to 0 ≡ 13 → end ≡ to + 1 → PlainLine s from end (xs ++ (x ∷ []))
     unfolding is_in_line
     ends_at_return return e =
         let longer = line ++ (13 ∷ []) in
@@ -145,9 +145,9 @@ module _ {s : List ℕ} {from at i : ℕ} {xs : List ℕ} (row : Row s from at i
         is_line end longer bytes (every_more is_in_line line 13 line_in_line refl) (omega (arith, forward)) inside feed
         (plain_case_return line some line_plain i (xs ++ (x ∷ [])) says_row (omega (arith, size)))
 
-    pub row_ends : end ≡ cond (eqb (get_or s to 0) 13) (to + 1) to → PlainLine (suc i) s from end (xs ++ (x ∷ []))
+    pub row_ends : end ≡ cond (eqb (get_or s to 0) 13) (to + 1) to → PlainLine s from end (xs ++ (x ∷ []))
     row_ends = go (eqb (get_or s to 0) 13) refl
       where
-        go : (t : Bool) → eqb (get_or s to 0) 13 ≡ t → end ≡ cond t (to + 1) to → PlainLine (suc i) s from end (xs ++ (x ∷ []))
+        go : (t : Bool) → eqb (get_or s to 0) 13 ≡ t → end ≡ cond t (to + 1) to → PlainLine s from end (xs ++ (x ∷ []))
         go true return = ends_at_return (eqb-true _ 13 return)
         go false return = ends_at_feed

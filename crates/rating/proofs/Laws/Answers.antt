@@ -1,7 +1,7 @@
--- The whole answer, number, rating and sheet, to one case of each arrangement and to one that is refused, computed from the definitions
--- alone. The cases are the first ones of the files in examples/. A definition that gives them another number in any place is refused here.
--- Assumes nothing.
-use Rattle.std.specs.Prelude.{◌≡◌, List, [], ◌∷◌, ℕ}
+-- The whole answer, number, rating and sheet, to one case of each arrangement, to one that is refused, and to a low-voltage cable whose
+-- dielectric loss does not count and then does, computed from the definitions alone. The cases stand in the files of
+-- examples/. A definition that gives them another number in any place is refused here. Assumes nothing.
+use Rattle.std.specs.Prelude.{◌≡◌, List, [], ◌∷◌, ℕ, set}
 use Rattle.exact.specs.Rounding.{up, down}
 use Rattle.exact.specs.Root.{root}
 use Rattle.formulas.specs.Tables.{conductor_metal}
@@ -46,7 +46,7 @@ use Rattle.formulas.specs.Rating.{unit_rise, rating}
 use Rattle.formulas.specs.Refusals.{skin_refused, eddy_refused, dielectric_refused, current_refused}
 use Rattle.formulas.specs.Constants.{tera, pi_low, pi_high, ln2_low, ln2_high, ln2_third_high}
 use Rattle.formulas.specs.Logarithm.{doublings, octaves, doubled, series, first_power, thirteen_terms, log_low, log_high}
-use Rattle.rating.specs.Values.{R', Rs, RA, B, zs, zp, ys, G, yp, R, X, XLow, Wd, rise_of}
+use Rattle.rating.specs.Values.{R', Rs, RA, B, zs, zp, ys, G, yp, R, X, XLow, loss_counts, Wd, rise_of}
 use Rattle.rating.specs.Arrangement.{axis_limits, no_armour, armourless, alternating}
 use Rattle.rating.specs.BothEnds.{both_ends}
 use Rattle.rating.specs.OnePoint.{one_point}
@@ -60,6 +60,8 @@ use Rattle.rating.specs.FieldRefusals.{
   conductor_limits,
   sheath_limits,
   thermal_limits,
+  further_limits,
+  unassigned,
   stray_refused,
   geometry_refused,
   heat_refused,
@@ -73,49 +75,59 @@ use Rattle.rating.specs.Rate.{refused, sheet_of, rated, loaded, judged, rate_of,
 abbrev pub trefoil : List ℕ
 trefoil =
     1 ∷ 2 ∷ 5000 ∷ 9000 ∷ 2000 ∷ 1150000 ∷ 480 ∷ 1920 ∷ 600 ∷ 1280 ∷ 6000 ∷ 250 ∷ 400 ∷ 1470 ∷ 3 ∷ 1077562 ∷ 8000 ∷ 0 ∷ 0 ∷ 0 ∷ 0 ∷ 0
-    ∷ 596281 ∷ 0 ∷ 185062 ∷ 3212858 ∷ []
+    ∷ 596281 ∷ 0 ∷ 185062 ∷ 3212858 ∷ 0 ∷ 0 ∷ 0 ∷ 0 ∷ []
 
 -- 2: the same laid flat and transposed
 abbrev pub flat : List ℕ
 flat =
     2 ∷ 2 ∷ 5000 ∷ 9000 ∷ 2000 ∷ 1150000 ∷ 480 ∷ 3840 ∷ 600 ∷ 1280 ∷ 6000 ∷ 250 ∷ 400 ∷ 1470 ∷ 3 ∷ 1077562 ∷ 8000 ∷ 0 ∷ 0 ∷ 0 ∷ 0 ∷ 0
-    ∷ 596281 ∷ 0 ∷ 115664 ∷ 3002284 ∷ []
+    ∷ 596281 ∷ 0 ∷ 115664 ∷ 3002284 ∷ 0 ∷ 0 ∷ 0 ∷ 0 ∷ []
 
 -- 3: a cable for 64 kV to earth with a segmental conductor and a lead sheath, in trefoil
 abbrev pub trefoil_one_point : List ℕ
 trefoil_one_point =
     3 ∷ 3 ∷ 5000 ∷ 9000 ∷ 1500 ∷ 28300 ∷ 3400 ∷ 9000 ∷ 3600 ∷ 6600 ∷ 64000 ∷ 250 ∷ 100 ∷ 7200 ∷ 1 ∷ 400000 ∷ 7500 ∷ 0 ∷ 0 ∷ 0 ∷ 0 ∷ 0
-    ∷ 400000 ∷ 0 ∷ 60000 ∷ 500000 ∷ []
+    ∷ 400000 ∷ 0 ∷ 60000 ∷ 500000 ∷ 0 ∷ 0 ∷ 0 ∷ 0 ∷ []
 
 -- 4: the same laid flat
 abbrev pub flat_one_point : List ℕ
 flat_one_point =
     4 ∷ 3 ∷ 5000 ∷ 9000 ∷ 1500 ∷ 28300 ∷ 3400 ∷ 9000 ∷ 3600 ∷ 6600 ∷ 64000 ∷ 250 ∷ 100 ∷ 7200 ∷ 1 ∷ 400000 ∷ 7500 ∷ 0 ∷ 0 ∷ 0 ∷ 0 ∷ 0
-    ∷ 400000 ∷ 0 ∷ 60000 ∷ 500000 ∷ []
+    ∷ 400000 ∷ 0 ∷ 60000 ∷ 500000 ∷ 0 ∷ 0 ∷ 0 ∷ 0 ∷ []
 
 -- 5: a three-core cable of SL type
 abbrev pub cable : List ℕ
 cable =
     5 ∷ 1 ∷ 5000 ∷ 8500 ∷ 1500 ∷ 124000 ∷ 1450 ∷ 4200 ∷ 1750 ∷ 3600 ∷ 19000 ∷ 350 ∷ 1000 ∷ 4000 ∷ 1 ∷ 1000000 ∷ 6000 ∷ 6 ∷ 250000 ∷ 5500
-    ∷ 2500 ∷ 11000 ∷ 350000 ∷ 40000 ∷ 60000 ∷ 450000 ∷ []
+    ∷ 2500 ∷ 11000 ∷ 350000 ∷ 40000 ∷ 60000 ∷ 450000 ∷ 0 ∷ 0 ∷ 0 ∷ 0 ∷ []
 
 -- the same with sheaths of aluminium, which refusal 7 refuses
 abbrev pub aluminium : List ℕ
 aluminium =
     5 ∷ 1 ∷ 5000 ∷ 8500 ∷ 1500 ∷ 124000 ∷ 1450 ∷ 4200 ∷ 1750 ∷ 3600 ∷ 19000 ∷ 350 ∷ 1000 ∷ 4000 ∷ 2 ∷ 1000000 ∷ 6000 ∷ 6 ∷ 250000 ∷ 5500
-    ∷ 2500 ∷ 11000 ∷ 350000 ∷ 40000 ∷ 60000 ∷ 450000 ∷ []
+    ∷ 2500 ∷ 11000 ∷ 350000 ∷ 40000 ∷ 60000 ∷ 450000 ∷ 0 ∷ 0 ∷ 0 ∷ 0 ∷ []
 
 -- 6: a three-core cable of 12/20 kV under one lead sheath
 abbrev pub three_cores : List ℕ
 three_cores =
     6 ∷ 2 ∷ 5000 ∷ 9000 ∷ 2000 ∷ 75400 ∷ 1850 ∷ 3210 ∷ 1970 ∷ 3070 ∷ 12000 ∷ 250 ∷ 400 ∷ 7377 ∷ 1 ∷ 355169 ∷ 8118 ∷ 0 ∷ 0 ∷ 0 ∷ 1853 ∷ 0
-    ∷ 406119 ∷ 0 ∷ 51159 ∷ 869665 ∷ []
+    ∷ 406119 ∷ 0 ∷ 51159 ∷ 869665 ∷ 0 ∷ 0 ∷ 0 ∷ 0 ∷ []
 
 -- the third of that file, under an aluminium sheath, whose Rs is below 100 µΩ/m
 abbrev pub three_cores_aluminium : List ℕ
 three_cores_aluminium =
     6 ∷ 5 ∷ 5000 ∷ 9000 ∷ 2000 ∷ 125000 ∷ 1850 ∷ 3210 ∷ 1970 ∷ 3070 ∷ 12000 ∷ 250 ∷ 400 ∷ 7297 ∷ 2 ∷ 68830 ∷ 8147 ∷ 0 ∷ 0 ∷ 0 ∷ 1853 ∷ 0
-    ∷ 406119 ∷ 0 ∷ 51444 ∷ 874605 ∷ []
+    ∷ 406119 ∷ 0 ∷ 51444 ∷ 874605 ∷ 0 ∷ 0 ∷ 0 ∷ 0 ∷ []
+
+-- a three-core cable of 0.6/1 kV with PVC insulation, whose loss the standard counts from 6 kV, under a concentric copper conductor
+abbrev pub low_voltage : List ℕ
+low_voltage =
+    6 ∷ 1 ∷ 5000 ∷ 7000 ∷ 2000 ∷ 193000 ∷ 1150 ∷ 1470 ∷ 1150 ∷ 1470 ∷ 600 ∷ 800 ∷ 10000 ∷ 3500 ∷ 3 ∷ 387000 ∷ 6200 ∷ 0 ∷ 0 ∷ 0 ∷ 849 ∷ 0
+    ∷ 450000 ∷ 0 ∷ 83000 ∷ 674000 ∷ 6000 ∷ 0 ∷ 0 ∷ 0 ∷ []
+
+-- the same where every voltage counts, by which its rating is 0.144 A smaller
+abbrev pub low_voltage_counted : List ℕ
+low_voltage_counted = set low_voltage 26 0
 
 pub record Answered : Type 0 where
   pub both_ends_1 :
@@ -181,6 +193,24 @@ pub record Answered : Type 0 where
             1602625000000 ∷ 858808498030 ∷ 0 ∷ 628318530720 ∷ 3194063320 ∷ 4692286050 ∷ 1615263860660 ∷ 0 ∷ 83983034837 ∷ 0 ∷ 56650693262
             ∷ 168887415 ∷ 5376747008813 ∷ [];
       }
+  pub low_voltage_6 :
+      rate_of low_voltage
+      ≡ record {
+        number = 0;
+        rating = 280655;
+        sheet =
+            2309245000000 ∷ 4508782200000 ∷ 0 ∷ 628318530720 ∷ 1540433462 ∷ 2743783662 ∷ 2319138306973 ∷ 0 ∷ 16486548705 ∷ 0 ∷ 0 ∷ 0
+            ∷ 6347816285383 ∷ [];
+      }
+  pub low_voltage_6_counted :
+      rate_of low_voltage_counted
+      ≡ record {
+        number = 0;
+        rating = 280511;
+        sheet =
+            2309245000000 ∷ 4508782200000 ∷ 0 ∷ 628318530720 ∷ 1540433462 ∷ 2743783662 ∷ 2319138306973 ∷ 0 ∷ 16486548705 ∷ 0
+            ∷ 20474700041 ∷ 51104852 ∷ 6347816285383 ∷ [];
+      }
   pub refused_7 :
       rate_of aluminium
       ≡ record {
@@ -192,16 +222,16 @@ pub record Answered : Type 0 where
 
 pub answered : Answered
 unfolding rated sheet_of refused loaded judged field_refusal arrangement_refused conductor_refused limit_refused conductor_limits
-    sheath_limits thermal_limits stray_refused geometry_refused heat_refused metal_refused arrangement_of sl_type armour_limits
-    alternating skin_refused eddy_refused dielectric_refused current_refused R' Rs RA B zs zp ys G yp R X XLow Wd rise_of N E current_of
-    conductor_metal temperature_factor resistance reactance reactance_low skin_reactance skin_ratio skin_ratio_squared factor skin_factor
-    spacing_ratio proximity_h proximity_g proximity_factor ac_resistance log_low log_high thirteen_terms series first_power doubled
-    octaves doublings spacing_log_high spacing_log_low sheath_reactance sheath_reactance_low bond_ratio bond_ratio_squared
-    circulating_loss three_halves sl_loss armour_ratio armour_ratio_squared reduced_armour_resistance unscreened_loss
-    screening_ratio_squared screened_loss armour_loss dielectric_loss dielectric_resistance dielectric_rise permitted_rise current_rise
-    unit_rise rating root pi_low pi_high ln2_low ln2_high ln2_third_high tera up down axis_limits no_armour armourless both_ends one_point
-    eddy_ratio eddy_ratio_squared eddy_factor eddy_spacing eddy_loss common_sheath axis_ratio axis_ratio_squared common_ratio
-    common_ratio_squared is_first first_formula second_formula common_loss
+    sheath_limits thermal_limits further_limits unassigned stray_refused geometry_refused heat_refused metal_refused arrangement_of sl_type
+    armour_limits alternating skin_refused eddy_refused dielectric_refused current_refused R' Rs RA B zs zp ys G yp R X XLow loss_counts Wd
+    rise_of N E current_of conductor_metal temperature_factor resistance reactance reactance_low skin_reactance skin_ratio
+    skin_ratio_squared factor skin_factor spacing_ratio proximity_h proximity_g proximity_factor ac_resistance log_low log_high
+    thirteen_terms series first_power doubled octaves doublings spacing_log_high spacing_log_low sheath_reactance sheath_reactance_low
+    bond_ratio bond_ratio_squared circulating_loss three_halves sl_loss armour_ratio armour_ratio_squared reduced_armour_resistance
+    unscreened_loss screening_ratio_squared screened_loss armour_loss dielectric_loss dielectric_resistance dielectric_rise permitted_rise
+    current_rise unit_rise rating root pi_low pi_high ln2_low ln2_high ln2_third_high tera up down axis_limits no_armour armourless
+    both_ends one_point eddy_ratio eddy_ratio_squared eddy_factor eddy_spacing eddy_loss common_sheath axis_ratio axis_ratio_squared
+    common_ratio common_ratio_squared is_first first_formula second_formula common_loss
 answered =
     record {
       both_ends_1 = rate_of_is trefoil;
@@ -211,5 +241,7 @@ answered =
       sl_type_5 = rate_of_is cable;
       common_sheath_6 = rate_of_is three_cores;
       common_sheath_6_first = rate_of_is three_cores_aluminium;
+      low_voltage_6 = rate_of_is low_voltage;
+      low_voltage_6_counted = rate_of_is low_voltage_counted;
       refused_7 = rate_of_is aluminium;
     }

@@ -1,7 +1,8 @@
 -- The arrangements that refusal 1 lets pass are 1 to 6; and every arrangement is lawful, whichever number field 0 has. Assumes nothing.
-use Rattle.std.specs.Prelude.{◌≡◌, refl, Bool, true, false, cond, List, ℕ, zero, suc, ◌<◌, leb, eqb}
+use Rattle.std.specs.Prelude.{◌≡◌, refl, true, false, List, ℕ, zero, suc, ◌<◌, leb, eqb}
 use Rattle.std.proofs.Common.{ap, ◌∙◌, arith, lit≤, le-leb, ne_eqb}
 use Rattle.std.proofs.lemmas.Bool.{false≢true, lt-leb}
+use Rattle.bools.proofs.Laws.Tests.{either}
 use Rattle.rating.specs.Within.{within}
 use Rattle.rating.specs.Arrangement.{Arrangement}
 use Rattle.rating.specs.BothEnds.{both_ends}
@@ -59,18 +60,14 @@ no_arrangement_lawful =
     none_fits fit = absurd (false≢true fit.known)
 
 -- what holds of each arrangement holds of the one that a number picks
-every :
+pub every :
     (P : Arrangement → Type 0) → P both_ends → P (one_point 1) → P (one_point 2) → P sl_type → P common_sheath → P no_arrangement →
     (k : ℕ) → P (arrangement_of k)
 unfolding arrangement_of
 every P both_ends one-1 one-2 sl common none k =
-    either (eqb k 1) both_ends
-    (either (eqb k 2) both_ends
-    (either (eqb k 3) one-1 (either (eqb k 4) one-2 (either (eqb k 5) sl (either (eqb k 6) common none)))))
-  where
-    either : (t : Bool) {a b : Arrangement} → P a → P b → P (cond t a b)
-    either true of-a of-b = of-a
-    either false of-a of-b = of-b
+    either P (eqb k 1) both_ends
+    (either P (eqb k 2) both_ends
+    (either P (eqb k 3) one-1 (either P (eqb k 4) one-2 (either P (eqb k 5) sl (either P (eqb k 6) common none)))))
 
 pub lawful : (k : ℕ) → Lawful (arrangement_of k)
 lawful =

@@ -2,6 +2,7 @@
 -- Assumes nothing.
 use Rattle.std.specs.Prelude.{Bool, true, false, cond, ◌&&◌, List, ◌≡◌, refl, ℕ, ◌≤◌, eqb}
 use Rattle.std.proofs.Common.{lit≤, ltb-false}
+use Rattle.bools.proofs.Laws.Tests.{either}
 use Rattle.formulas.specs.Refusals.{skin_refused, eddy_refused, dielectric_refused, current_refused}
 use Rattle.rating.specs.Values.{Rs, B, zs, zp, rise_of}
 use Rattle.rating.specs.Arrangements.{own}
@@ -18,19 +19,18 @@ use Rattle.rating.specs.FieldRefusals.{
 use Rattle.rating.specs.Stage10.{numbers_of, current_of}
 use Rattle.rating.specs.Rate.{Answer, refused, rated, loaded, judged, rate_of, rate_of_is}
 
-either_most : (m : ℕ) (given : Bool) {n rest : ℕ} → n ≤ m → rest ≤ m → cond given n rest ≤ m
-either_most m true n≤ rest≤ = n≤
-either_most m false n≤ rest≤ = rest≤
+abbrev at_most_11 : ℕ → Type 0
+at_most_11 n = n ≤ 11
 
 field_refusal_most : (x : List ℕ) → field_refusal x ≤ 11
 unfolding field_refusal
 field_refusal_most x =
-    either_most 11 (arrangement_refused x) (lit≤ tt)
-    (either_most 11 (conductor_refused x) (lit≤ tt)
-    (either_most 11 (limit_refused x) (lit≤ tt)
-    (either_most 11 (stray_refused x) (lit≤ tt)
-    (either_most 11 (geometry_refused x) (lit≤ tt)
-    (either_most 11 (heat_refused x) (lit≤ tt) (either_most 11 (metal_refused x) (lit≤ tt) (lit≤ tt)))))))
+    either at_most_11 (arrangement_refused x) (lit≤ tt)
+    (either at_most_11 (conductor_refused x) (lit≤ tt)
+    (either at_most_11 (limit_refused x) (lit≤ tt)
+    (either at_most_11 (stray_refused x) (lit≤ tt)
+    (either at_most_11 (geometry_refused x) (lit≤ tt)
+    (either at_most_11 (heat_refused x) (lit≤ tt) (either at_most_11 (metal_refused x) (lit≤ tt) (lit≤ tt)))))))
 
 pub record Bounded (a : Answer) : Type 0 where
   pub number_most : a.number ≤ 11

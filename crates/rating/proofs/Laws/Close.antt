@@ -1,10 +1,11 @@
 -- R, X, X- and Wd of a case against their exact values, by the bounds of their formulas. Assumes nothing.
 use Rattle.std.specs.Prelude.{◌≡◌, true, List, ℕ, ◌≤◌, ◌<◌}
 use Rattle.std.proofs.Common.{arith, lit<, lit≤}
+use Rattle.bools.proofs.Laws.Tests.{either_both}
 use Rattle.exact.specs.Fraction.{whole}
-use Rattle.exact.proofs.Laws.Fraction.{≤F_refl}
+use Rattle.exact.proofs.Laws.Fraction.{whole_mono, ≤F_refl}
 use Rattle.exact.specs.Error.{Within}
-use Rattle.exact.proofs.Laws.Error.{within_weaken}
+use Rattle.exact.proofs.Laws.Error.{within_refl, within_weaken}
 use Rattle.formulas.specs.Refusals.{skin_limit}
 use Rattle.formulas.specs.Dielectric.{dielectric_rise, dielectric_rise*}
 use Rattle.formulas.proofs.Laws.TableRange.{ks_range, kp_range}
@@ -13,7 +14,7 @@ use Rattle.formulas.proofs.Laws.CloseSpacing.{sheath_reactance_close}
 use Rattle.formulas.proofs.Laws.CloseSpacingLow.{sheath_reactance_low_close}
 use Rattle.formulas.proofs.Laws.CloseDielectric.{loss_close, dielectric_close}
 use Rattle.fields.specs.Fields as Field
-use Rattle.rating.specs.Values.{B, zs, zp, ys, G, yp, R, X, XLow, Wd}
+use Rattle.rating.specs.Values.{B, zs, zp, ys, G, yp, R, X, XLow, Wd, loss_counts}
 use Rattle.rating.specs.Chosen.{Chosen, B*, R*, X*, Wd*}
 use Rattle.rating.specs.Arrangement.{Arrangement}
 use Rattle.rating.specs.Allowed.{Allowed}
@@ -31,19 +32,25 @@ module _ {a : Arrangement} {x : List ℕ} {c : Chosen} (allowed : Allowed a x c)
       (omega (arith, fine.spacing))
       spaced)
 
+  -- where it does not count, both are zero
+  Wd_close : Within 2200 (whole 1) (Wd* x c) (whole (Wd x))
+  unfolding Wd* Wd B* B
+  Wd_close =
+      either_both (λ wd* wd. Within 2200 (whole 1) wd* (whole wd)) (loss_counts x)
+      (loss_close (Field.permittivity x) (Field.voltage x) (Field.loss_factor x) allowed.pi fine.frequency allowed.log_insulation
+      (omega (arith, fine.screen_diameter))
+      (omega (arith, fine.insulated))
+      (insulation_ratio fine))
+      (within_weaken (lit≤ tt) (whole_mono (lit≤ tt)) (within_refl (≤F_refl (whole 0) (lit< tt))))
+
   pub dd_close :
       {n : ℕ} → n ≤ 3 →
       Within 2500 (whole 2)
       (dielectric_rise* n (Wd* x c) (Field.t1 x) (Field.t2 x) (Field.t3 x) (Field.t4 x))
       (whole (dielectric_rise n (Wd x) (Field.t1 x) (Field.t2 x) (Field.t3 x) (Field.t4 x)))
-  unfolding Wd* Wd B* B
   dd_close n≤ =
       within_weaken (lit≤ tt) (≤F_refl (whole 2) (lit< tt))
-      (dielectric_close n≤ fine.t1.most fine.t2.most fine.t3.most fine.t4.most
-      (loss_close (Field.permittivity x) (Field.voltage x) (Field.loss_factor x) allowed.pi fine.frequency allowed.log_insulation
-      (omega (arith, fine.screen_diameter))
-      (omega (arith, fine.insulated))
-      (insulation_ratio fine)))
+      (dielectric_close n≤ fine.t1.most fine.t2.most fine.t3.most fine.t4.most Wd_close)
 
   -- where X is one of the arrangement's values and the sheaths do not overlap
   module _ (reactive : a.reactive ≡ true) (apart : Field.sheath_diameter x ≤ Field.spacing x) where

@@ -1,10 +1,20 @@
--- The tests of the fields at the edges of an arrangement's own limits and relations, each at equality and one beyond, and the first of two
--- refusals where both are given. A definition that moves an edge is refused here. Assumes nothing.
+-- The tests of the fields at the edges of an arrangement's own limits and relations, of the voltage from which the dielectric loss counts
+-- and of the unassigned fields, each at equality and one beyond, and the first of two refusals where both are given. A definition that
+-- moves an edge is refused here. Assumes nothing.
 use Rattle.std.specs.Prelude.{◌≡◌, refl, true, false, List, [], ◌∷◌, map, ℕ, set}
-use Rattle.rating.specs.Arrangement.{axis_limits, no_armour, armourless}
+use Rattle.exact.specs.Rounding.{up, down}
+use Rattle.formulas.specs.Constants.{tera, pi_high, ln2_low}
+use Rattle.formulas.specs.Reactance.{reactance}
+use Rattle.formulas.specs.Logarithm.{doublings, octaves, doubled, series, first_power, thirteen_terms, log_low}
+use Rattle.formulas.specs.Dielectric.{dielectric_loss, dielectric_resistance, dielectric_rise}
+use Rattle.rating.specs.Values.{B, loss_counts, Wd}
+use Rattle.rating.specs.Arrangement.{axis_limits, no_armour, armourless, alternating}
 use Rattle.rating.specs.BothEnds.{both_ends}
+use Rattle.rating.specs.OnePoint.{one_point}
+use Rattle.rating.specs.SlType.{armour_limits, sl_type}
 use Rattle.rating.specs.CommonSheath.{common_sheath}
 use Rattle.rating.specs.Arrangements.{no_arrangement, arrangement_of}
+use Rattle.rating.specs.Stage10.{numbers_of}
 use Rattle.rating.specs.FieldRefusals.{
   arrangement_refused,
   conductor_refused,
@@ -12,13 +22,15 @@ use Rattle.rating.specs.FieldRefusals.{
   conductor_limits,
   sheath_limits,
   thermal_limits,
+  further_limits,
+  unassigned,
   stray_refused,
   geometry_refused,
   heat_refused,
   metal_refused,
   field_refusal,
 }
-use Rattle.rating.proofs.Laws.Answers.{trefoil, three_cores}
+use Rattle.rating.proofs.Laws.Answers.{trefoil, flat, trefoil_one_point, flat_one_point, cable, three_cores}
 
 -- the cable of arrangement 6, which no refusal refuses, with one field or two set anew
 
@@ -60,8 +72,9 @@ pub record CommonSheathEdges : Type 0 where
   pub geometry_before_heat : field_refusal (having_both 20 3689 16 9001) ≡ 5
 
 pub common_sheath_edges : CommonSheathEdges
-unfolding field_refusal arrangement_refused conductor_refused limit_refused conductor_limits sheath_limits thermal_limits stray_refused
-    geometry_refused heat_refused metal_refused arrangement_of no_arrangement both_ends common_sheath axis_limits no_armour armourless
+unfolding field_refusal arrangement_refused conductor_refused limit_refused conductor_limits sheath_limits thermal_limits further_limits
+    unassigned stray_refused geometry_refused heat_refused metal_refused arrangement_of no_arrangement both_ends common_sheath axis_limits
+    no_armour armourless
 common_sheath_edges =
     record {
       six_passes_1 = refl;
@@ -85,4 +98,93 @@ common_sheath_edges =
       limit_before_geometry = refl;
       stray_before_geometry = refl;
       geometry_before_heat = refl;
+    }
+
+-- the same cable, whose U0 is 12000, with field 26 and the unassigned fields set anew
+
+pub record LossVoltageEdges : Type 0 where
+  -- 3: field 26 has its limits
+  pub least_loss_voltage : limit_refused (having 26 0) ≡ false
+  pub most_loss_voltage : limit_refused (having 26 300000) ≡ false
+  pub above_loss_voltage : limit_refused (having 26 300001) ≡ true
+  -- at equality the loss counts, one volt below not, one above it does
+  pub at_voltage : loss_counts (having 26 12000) ≡ true
+  pub at_voltage_loss : Wd (having 26 12000) ≡ 56650693262
+  pub at_voltage_rise : (numbers_of (having 26 12000)).dd ≡ 167999416
+  pub one_below : loss_counts (having_both 26 12000 10 11999) ≡ false
+  pub one_below_loss : Wd (having_both 26 12000 10 11999) ≡ 0
+  pub one_below_rise : (numbers_of (having_both 26 12000 10 11999)).dd ≡ 0
+  pub one_above : loss_counts (having_both 26 12000 10 12001) ≡ true
+  pub one_above_loss : Wd (having_both 26 12000 10 12001) ≡ 56660135438
+  pub one_above_rise : (numbers_of (having_both 26 12000 10 12001)).dd ≡ 168027417
+  -- and so for a U0 of 0
+  pub no_voltage_from_0 : loss_counts (having_both 26 0 10 0) ≡ true
+  pub no_voltage_from_1 : loss_counts (having_both 26 1 10 0) ≡ false
+  -- 4 and not 3: the unassigned fields, whatever stands there, in each arrangement
+  pub unassigned_gets_4 : map (λ field. field_refusal (having field 1)) (27 ∷ 28 ∷ 29 ∷ []) ≡ 4 ∷ 4 ∷ 4 ∷ []
+  pub unassigned_most_gets_4 : map (λ field. field_refusal (having field 4294967295)) (27 ∷ 28 ∷ 29 ∷ []) ≡ 4 ∷ 4 ∷ 4 ∷ []
+  pub unassigned_passes_3 : map (λ field. limit_refused (having field 4294967295)) (27 ∷ 28 ∷ 29 ∷ []) ≡ false ∷ false ∷ false ∷ []
+  pub unassigned_in_each :
+      map (λ x. field_refusal (set x 29 1)) (trefoil ∷ flat ∷ trefoil_one_point ∷ flat_one_point ∷ cable ∷ three_cores ∷ [])
+      ≡ 4 ∷ 4 ∷ 4 ∷ 4 ∷ 4 ∷ 4 ∷ []
+  -- of two the earlier: field 26 by 3
+  pub arrangement_before_limit : field_refusal (having_both 26 300001 0 7) ≡ 1
+  pub conductor_before_limit : field_refusal (having_both 26 300001 1 9) ≡ 2
+  pub limit_before_unassigned : field_refusal (having_both 26 300001 27 1) ≡ 3
+  pub limit_before_stray : field_refusal (having_both 26 300001 17 1) ≡ 3
+  pub limit_before_geometry : field_refusal (having_both 26 300001 7 1849) ≡ 3
+  pub limit_before_heat : field_refusal (having_both 26 300001 16 9001) ≡ 3
+  -- and the unassigned ones by 4
+  pub arrangement_before_unassigned : field_refusal (having_both 27 1 0 7) ≡ 1
+  pub conductor_before_unassigned : field_refusal (having_both 27 1 1 9) ≡ 2
+  pub axis_limit_before_unassigned : field_refusal (having_both 27 1 20 99) ≡ 3
+  pub unassigned_and_stray : field_refusal (having_both 27 1 17 1) ≡ 4
+  pub unassigned_before_geometry : field_refusal (having_both 27 1 7 1849) ≡ 4
+  pub unassigned_before_heat : field_refusal (having_both 27 1 16 9001) ≡ 4
+  pub metal_alone : field_refusal (set trefoil_one_point 14 2) ≡ 7
+  pub limit_before_metal : field_refusal (set (set trefoil_one_point 14 2) 26 300001) ≡ 3
+  pub unassigned_before_metal : field_refusal (set (set trefoil_one_point 14 2) 27 1) ≡ 4
+  pub two_unassigned : field_refusal (having_both 27 1 29 4294967295) ≡ 4
+
+pub loss_voltage_edges : LossVoltageEdges
+unfolding field_refusal arrangement_refused conductor_refused limit_refused conductor_limits sheath_limits thermal_limits further_limits
+    unassigned stray_refused geometry_refused heat_refused metal_refused arrangement_of no_arrangement both_ends one_point sl_type
+    armour_limits common_sheath axis_limits no_armour armourless loss_counts Wd B alternating dielectric_loss dielectric_resistance
+    dielectric_rise reactance log_low thirteen_terms series first_power doubled octaves doublings pi_high ln2_low tera up down
+loss_voltage_edges =
+    record {
+      least_loss_voltage = refl;
+      most_loss_voltage = refl;
+      above_loss_voltage = refl;
+      at_voltage = refl;
+      at_voltage_loss = refl;
+      at_voltage_rise = refl;
+      one_below = refl;
+      one_below_loss = refl;
+      one_below_rise = refl;
+      one_above = refl;
+      one_above_loss = refl;
+      one_above_rise = refl;
+      no_voltage_from_0 = refl;
+      no_voltage_from_1 = refl;
+      unassigned_gets_4 = refl;
+      unassigned_most_gets_4 = refl;
+      unassigned_passes_3 = refl;
+      unassigned_in_each = refl;
+      arrangement_before_limit = refl;
+      conductor_before_limit = refl;
+      limit_before_unassigned = refl;
+      limit_before_stray = refl;
+      limit_before_geometry = refl;
+      limit_before_heat = refl;
+      arrangement_before_unassigned = refl;
+      conductor_before_unassigned = refl;
+      axis_limit_before_unassigned = refl;
+      unassigned_and_stray = refl;
+      unassigned_before_geometry = refl;
+      unassigned_before_heat = refl;
+      metal_alone = refl;
+      limit_before_metal = refl;
+      unassigned_before_metal = refl;
+      two_unassigned = refl;
     }

@@ -1,8 +1,8 @@
 -- Demand 3 on a case of arrangement 5, a three-core SL type of 124 microhm/m at 19 kV which rates 457.106 A, with fractions chosen for pi,
--- ln 2 and the two logarithms; and on cases of arrangements 3 and 6, which have one logarithm alone. So the premises of the theorems are
--- met. Assumes nothing.
-use Rattle.std.specs.Prelude.{◌≡◌, refl, false, List, ℕ, ◌+◌, ◌*◌, ◌^◌}
-use Rattle.std.proofs.Common.{sym, ap, subst, ◌∙◌, true≢false}
+-- ln 2 and the two logarithms; and on cases of arrangements 3 and 6, which have one logarithm alone, one of them without dielectric loss.
+-- So the premises of the theorems are met. Assumes nothing.
+use Rattle.std.specs.Prelude.{◌≡◌, refl, false, List, take, ℕ, ◌+◌, ◌*◌, ◌^◌}
+use Rattle.std.proofs.Common.{sym, ap, subst, ◌∙◌, lit<, true≢false}
 use Rattle.exact.specs.Rounding.{up, down}
 use Rattle.exact.specs.Fraction.{Fraction, ◌over◌, whole, ◌≤F◌, ◌<F◌}
 use Rattle.exact.proofs.Laws.Fraction.{closed≤}
@@ -16,12 +16,13 @@ use Rattle.rating.specs.OnePoint.{one_point}
 use Rattle.rating.specs.CommonSheath.{common_sheath}
 use Rattle.rating.specs.Arrangements.{arrangement_of, own}
 use Rattle.rating.specs.Allowed.{Allowed}
-use Rattle.rating.specs.Rate.{rated, rate_of}
+use Rattle.rating.specs.Rate.{Answer, rated, rate_of}
 use Rattle.rating.specs.Exact.{exact_rise, permitted_of}
+use Rattle.rating.proofs.Laws.LossVoltage.{Counted, counted, Older, older, Uncounted, uncounted}
 use Rattle.rating.proofs.Laws.Logarithms.{Promised, promised}
 use Rattle.rating.proofs.Laws.Passed.{all_passed, rated_stages}
 use Rattle.rating.proofs.Laws.Margin.{safe, close, nearer}
-use Rattle.rating.proofs.Laws.Answers.{trefoil_one_point, cable, three_cores, answered}
+use Rattle.rating.proofs.Laws.Answers.{trefoil, trefoil_one_point, cable, three_cores, low_voltage, low_voltage_counted, answered}
 
 abbrev pub chosen : Chosen
 chosen =
@@ -42,8 +43,12 @@ chosen_allowed =
       log_insulation = record { at_least = closed≤ tt; at_most = closed≤ tt };
     }
 
+-- of a whole answer
+number_and_rating : (x : List ℕ) {a : Answer} → rate_of x ≡ a → ((rate_of x).number ≡ a.number) × ((rate_of x).rating ≡ a.rating)
+number_and_rating x is = (ap (λ a. a.number) is, ap (λ a. a.rating) is)
+
 pub answer : ((rate_of cable).number ≡ 0) × ((rate_of cable).rating ≡ 457106)
-answer = let is = answered.sl_type_5 in (ap (λ a. a.number) is, ap (λ a. a.rating) is)
+answer = number_and_rating _ answered.sl_type_5
 
 -- it passed every refusal, its answer is that of the stages, and stage 5's promises hold of both its logarithms
 
@@ -53,17 +58,25 @@ stages = rated_stages cable answer.0
 logarithms : Promised cable
 logarithms = promised cable (all_passed cable answer.0).fields
 
+-- demand 3 at a rating that was computed
+module _
+    {x : List ℕ} {c : Chosen} (allowed : Allowed (own x) x c) {rating : ℕ}
+    (answer_is : ((rate_of x).number ≡ 0) × ((rate_of x).rating ≡ rating)) where
+  under_at : exact_rise x c (whole rating) ≤F whole (permitted_of x)
+  under_at = subst (λ i. exact_rise x c (whole i) ≤F whole (permitted_of x)) answer_is.1 (safe x c allowed answer_is.0)
+
+  over_at : whole (permitted_of x) <F exact_rise x c (whole (rating + 2))
+  over_at = subst (λ i. whole (permitted_of x) <F exact_rise x c (whole (i + 2))) answer_is.1 (close x c allowed answer_is.0)
+
 permitted : permitted_of cable ≡ 70000000000
 unfolding permitted_of permitted_rise rise_of
 permitted = refl
 
 under : exact_rise cable chosen (whole 457106) ≤F whole 70000000000
-under = rw (← answer.1, ← permitted) (safe cable chosen chosen_allowed answer.0)
+under = rw (← permitted) (under_at chosen_allowed answer)
 
 over_5 : whole 70000000000 <F exact_rise cable chosen (whole (457106 + 2))
-over_5 =
-    subst (λ i. whole 70000000000 <F exact_rise cable chosen (whole (i + 2))) answer.1
-    (rw (← permitted) (close cable chosen chosen_allowed answer.0))
+over_5 = rw (← permitted) (over_at chosen_allowed answer)
 
 over_nearer : whole 70000000000 <F exact_rise cable chosen (457106 * 10000001 + 10000000 over 10000000)
 over_nearer =
@@ -96,10 +109,11 @@ unfolding arrangement_of one_point log_low log_high thirteen_terms series first_
     down
 allowed_3 = without_spacing_allowed trefoil_one_point _ refl (record { at_least = closed≤ tt; at_most = closed≤ tt })
 
+answer_3 : ((rate_of trefoil_one_point).number ≡ 0) × ((rate_of trefoil_one_point).rating ≡ 1445739)
+answer_3 = number_and_rating _ answered.one_point_3
+
 under_3 : exact_rise trefoil_one_point chosen_3 (whole 1445739) ≤F whole (permitted_of trefoil_one_point)
-under_3 =
-    rw (← ap (λ a. a.rating) answered.one_point_3)
-    (safe trefoil_one_point chosen_3 allowed_3 (ap (λ a. a.number) answered.one_point_3))
+under_3 = under_at allowed_3 answer_3
 
 abbrev pub chosen_6 : Chosen
 chosen_6 = without_spacing (443644018850 over 10 ^ 12)
@@ -110,12 +124,56 @@ unfolding arrangement_of common_sheath log_low log_high thirteen_terms series fi
 allowed_6 = without_spacing_allowed three_cores _ refl (record { at_least = closed≤ tt; at_most = closed≤ tt })
 
 pub answer_6 : ((rate_of three_cores).number ≡ 0) × ((rate_of three_cores).rating ≡ 469955)
-answer_6 = let is = answered.common_sheath_6 in (ap (λ a. a.number) is, ap (λ a. a.rating) is)
+answer_6 = number_and_rating _ answered.common_sheath_6
 
 under_6 : exact_rise three_cores chosen_6 (whole 469955) ≤F whole (permitted_of three_cores)
-under_6 = rw (← answer_6.1) (safe three_cores chosen_6 allowed_6 answer_6.0)
+under_6 = under_at allowed_6 answer_6
 
 over_6 : whole (permitted_of three_cores) <F exact_rise three_cores chosen_6 (whole (469955 + 2))
-over_6 =
-    subst (λ i. whole (permitted_of three_cores) <F exact_rise three_cores chosen_6 (whole (i + 2))) answer_6.1
-    (close three_cores chosen_6 allowed_6 answer_6.0)
+over_6 = over_at allowed_6 answer_6
+
+-- the low-voltage cable, whose dielectric loss does not count
+
+no_loss : Uncounted low_voltage
+no_loss = uncounted low_voltage (lit< tt)
+
+abbrev pub chosen_low_voltage : Chosen
+chosen_low_voltage = without_spacing (245500458415 over 10 ^ 12)
+
+low_voltage_log : IsLog 1470 1150 (245500458415 over 10 ^ 12)
+unfolding log_low log_high thirteen_terms series first_power doubled octaves doublings ln2_low ln2_high tera up down
+low_voltage_log = record { at_least = closed≤ tt; at_most = closed≤ tt }
+
+pub allowed_low_voltage : Allowed (own low_voltage) low_voltage chosen_low_voltage
+unfolding arrangement_of common_sheath
+allowed_low_voltage = without_spacing_allowed low_voltage _ refl low_voltage_log
+
+pub answer_low_voltage : ((rate_of low_voltage).number ≡ 0) × ((rate_of low_voltage).rating ≡ 280655)
+answer_low_voltage = number_and_rating _ answered.low_voltage_6
+
+under_low_voltage : exact_rise low_voltage chosen_low_voltage (whole 280655) ≤F whole (permitted_of low_voltage)
+under_low_voltage = under_at allowed_low_voltage answer_low_voltage
+
+over_low_voltage : whole (permitted_of low_voltage) <F exact_rise low_voltage chosen_low_voltage (whole (280655 + 2))
+over_low_voltage = over_at allowed_low_voltage answer_low_voltage
+
+-- the same where it counts, and a case of the older width, where it does as well
+
+counts : Counted low_voltage_counted
+counts = counted low_voltage_counted refl
+
+older_case : Older trefoil
+older_case = older (take 26 trefoil) refl
+
+allowed_counted : Allowed (own low_voltage_counted) low_voltage_counted chosen_low_voltage
+unfolding arrangement_of common_sheath
+allowed_counted = without_spacing_allowed low_voltage_counted _ refl low_voltage_log
+
+pub answer_counted : ((rate_of low_voltage_counted).number ≡ 0) × ((rate_of low_voltage_counted).rating ≡ 280511)
+answer_counted = number_and_rating _ answered.low_voltage_6_counted
+
+under_counted : exact_rise low_voltage_counted chosen_low_voltage (whole 280511) ≤F whole (permitted_of low_voltage_counted)
+under_counted = under_at allowed_counted answer_counted
+
+over_counted : whole (permitted_of low_voltage_counted) <F exact_rise low_voltage_counted chosen_low_voltage (whole (280511 + 2))
+over_counted = over_at allowed_counted answer_counted

@@ -2,6 +2,7 @@
 -- limits of the fields. Assumes nothing.
 use Rattle.std.specs.Prelude.{◌≡◌, List, ℕ, ◌*◌, ◌≤◌, ◌<◌, ℤ, pos, negsuc, neg_ℤ, ◌≤ℤ◌}
 use Rattle.std.proofs.Common.{le_trans, mul-le-mul, arith, lit≤}
+use Rattle.bools.proofs.Laws.Tests.{either}
 use Rattle.formulas.specs.Refusals.{skin_limit}
 use Rattle.formulas.specs.Laws.Bounds.{
   least_conductor_resistance,
@@ -34,7 +35,7 @@ use Rattle.formulas.proofs.Laws.Ranges as Law
 use Rattle.formulas.specs.Laws.Ranges.{In}
 use Rattle.stages.specs.Laws.Ranges.{ThermalRanges, CirculatingRanges}
 use Rattle.fields.specs.Fields as Field
-use Rattle.rating.specs.Values.{R', Rs, B, zs, zp, ys, G, yp, R, X, XLow, Wd}
+use Rattle.rating.specs.Values.{R', Rs, B, zs, zp, ys, G, yp, R, X, XLow, Wd, loss_counts}
 use Rattle.rating.specs.Laws.Sound.{Sound}
 
 pub above_cold : (θ : ℤ) → pos 4000 ≤ℤ θ → neg_ℤ (pos 4000) ≤ℤ θ
@@ -82,7 +83,10 @@ module _ {x : List ℕ} (fine : Sound x) where
 
   pub Wd_most : Wd x ≤ most_dielectric_loss
   unfolding Wd dielectric_loss
-  Wd_most = Law.dielectric_loss_most loss_product B_range.most insulation_log_range.least
+  Wd_most =
+      either (λ wd. wd ≤ most_dielectric_loss) (loss_counts x)
+      (Law.dielectric_loss_most loss_product B_range.most insulation_log_range.least)
+      (lit≤ tt)
 
   -- T1 to T4, which stages 9 and 10 take
   pub thermal_ranges :

@@ -71,7 +71,8 @@ unfolding arrangement_refused conductor_refused limit_refused conductor_limits s
 sound x none_given =
     let given : Unrefused x = unrefused x none_given in
     let its_own = both _ _ (holds _ given.limits) in
-    let thermal = both _ _ its_own.0 in
+    let further = both _ _ its_own.0 in
+    let thermal = both _ _ further.0 in
     let sheath = both _ _ thermal.0 in
     -- fields 2 to 9, from the last
     let insulation = both _ _ sheath.0 in

@@ -9,23 +9,23 @@ use Rattle.std.proofs.Math.Nat.{zero-sub, sub-zero, suc-sub-suc}
 use Rattle.std.proofs.Math.ListN.{length, take, length-take}
 use Rattle.std.proofs.Math.Seq.{take_at, take-nil}
 use Rattle.text.specs.Gather.{piece, line_room, kept, Holds}
-use Rattle.text.specs.Line.{longest_line, read_line_of}
+use Rattle.text.specs.Line.{longest_line, read_line}
 use Rattle.splice.specs.Splice.{splice}
 
 -- ---- the start of a line that fills the room decides what the line says
 
-pub too_long : (n : ℕ) (l : List ℕ) → longest_line < length l → read_line_of n l ≡ Unreadable
-unfolding read_line_of
-too_long n l h = simp (lt-ltb _ _ h)
+pub too_long : (l : List ℕ) → longest_line < length l → read_line l ≡ Unreadable
+unfolding read_line
+too_long l h = simp (lt-ltb _ _ h)
 
-pub start_decides : (n : ℕ) (l : List ℕ) → read_line_of n (take line_room l) ≡ read_line_of n l
-start_decides n l = go (ltb longest_line (length l)) refl
+pub start_decides : (l : List ℕ) → read_line (take line_room l) ≡ read_line l
+start_decides l = go (ltb longest_line (length l)) refl
   where
-    go : (t : Bool) → ltb longest_line (length l) ≡ t → read_line_of n (take line_room l) ≡ read_line_of n l
+    go : (t : Bool) → ltb longest_line (length l) ≡ t → read_line (take line_room l) ≡ read_line l
     go true e =
         let long = ltb-true longest_line (length l) e in
-        too_long n (take line_room l) (omega (arith, length-take line_room l)) ∙ sym (too_long n l long)
-    go false e = ap (read_line_of n) (take_all line_room l (omega (arith, ltb-false longest_line (length l) e)))
+        too_long (take line_room l) (omega (arith, length-take line_room l)) ∙ sym (too_long l long)
+    go false e = ap read_line (take_all line_room l (omega (arith, ltb-false longest_line (length l) e)))
 
 -- ---- what is kept is the start of the line
 

@@ -1,13 +1,14 @@
--- A line that writes numbers in decimal, with one blank between them, is read back as those numbers. Assumes nothing.
+-- A line that writes numbers in decimal, with one blank between them, is read back as those numbers, by how many they are. Assumes nothing.
 use Rattle.std.specs.Prelude.{true, List, [], ◌∷◌, ◌++◌, ◌≡◌, refl, ℕ, suc, ◌*◌, ◌^◌, ◌≤◌, ◌<◌, length}
 use Rattle.std.specs.Prelude.{Option}
-use Rattle.text.specs.declared.line.Said.TheVariants.{Case}
-use Rattle.std.proofs.Common.{ap, subst, ◌∙◌, lt_trans, arith, lit<, length-append}
+use Rattle.text.specs.declared.line.Said.TheVariants.{Case, Unreadable}
+use Rattle.std.proofs.Common.{ap, ◌∙◌, lt_trans, arith, lit<, length-append}
 use Rattle.decimals.specs.Decimal.{decimal, spaced, written}
 use Rattle.decimals.proofs.Laws.Decimal.{count_positive, count_below}
-use Rattle.text.specs.Line.{before, field, fields, longest_line, read_line_of, read_line}
-use Rattle.fields.specs.Fields.{width}
+use Rattle.text.specs.Line.{case_of, before, field, fields, longest_line, read_line}
+use Rattle.fields.specs.Fields.{width, older_width, from_older}
 use Rattle.text.specs.Number.{is_digit, is_numeral, every, Below32}
+use Rattle.text.specs.Laws.Case.{of_width, of_older, of_other}
 use Rattle.text.specs.Laws.Number.{every_append, every_weaker, decimal_digits, read_decimal}
 use Rattle.text.specs.Laws.Words.{one_field, blank_first, is_plain, digit_ink, digit_plain, plain_case}
 use Rattle.text.specs.Words.{is_blank, is_ink, run, is_empty, drop_blanks}
@@ -51,7 +52,7 @@ spaced_length (x ∷ xs) h =
     omega (arith, length-append (decimal x) (spaced xs), short x (h 0), spaced_length xs (λ i. h (suc i)))
 
 read_back : (x : ℕ) (xs : List ℕ) → Below32 (x ∷ xs) → suc (length xs) * 11 ≤ longest_line
-    → read_line_of (suc (length xs)) (decimal x ++ spaced xs) ≡ Case (x ∷ xs)
+    → read_line (decimal x ++ spaced xs) ≡ case_of (x ∷ xs)
 unfolding Below32 before
 read_back x xs h k =
     let size = length-append (decimal x) (spaced xs) in
@@ -65,14 +66,20 @@ read_back x xs h k =
 -- ---- the theorems
 
 -- as many numbers as a line has room for, at eleven bytes each
-pub round_trip : (xs : List ℕ) → 0 < length xs → length xs * 11 ≤ longest_line → Below32 xs →
-    read_line_of (length xs) (written xs) ≡ Case xs
+pub round_trip : (xs : List ℕ) → 0 < length xs → length xs * 11 ≤ longest_line → Below32 xs → read_line (written xs) ≡ case_of xs
 unfolding written
 round_trip [] m k h = absurd (omega arith)
 round_trip (x ∷ xs) m k h = read_back x xs h k
 
 -- a case
 pub round_trip_case : (xs : List ℕ) → length xs ≡ width → Below32 xs → read_line (written xs) ≡ Case xs
-unfolding read_line
-round_trip_case xs e h =
-    subst (λ (n : ℕ). read_line_of n (written xs) ≡ Case xs) e (round_trip xs (omega arith) (omega arith) h)
+round_trip_case xs e h = round_trip xs (omega arith) (omega arith) h ∙ of_width xs e
+
+-- one of the older width
+pub round_trip_older : (xs : List ℕ) → length xs ≡ older_width → Below32 xs → read_line (written xs) ≡ Case (from_older xs)
+round_trip_older xs e h = round_trip xs (omega arith) (omega arith) h ∙ of_older xs e
+
+-- any other count, as 27 to 29
+pub round_trip_other : (xs : List ℕ) → 0 < length xs → length xs * 11 ≤ longest_line → Below32 xs → (length xs ≡ width → ⊥)
+    → (length xs ≡ older_width → ⊥) → read_line (written xs) ≡ Unreadable
+round_trip_other xs m k h not_width not_older = round_trip xs m k h ∙ of_other xs not_width not_older

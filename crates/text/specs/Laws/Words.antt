@@ -1,21 +1,20 @@
 -- A line of numbers and blanks: its first word is read and what follows it is left, a blank in front is passed over, and the numbers
--- alone decide what the line says, also with a carriage return at its end. Assumes nothing.
+-- alone, and how many they are, decide what the line says, also with a carriage return at its end. Assumes nothing.
 use Rattle.std.proofs.Common.{List, [], ◌∷◌, ◌++◌, arith, le-ltb, ne_eqb}
-use Rattle.text.specs.declared.line.Said.{Said}
-use Rattle.text.specs.declared.line.Said.TheVariants.{PassedOver, Case, Unreadable}
+use Rattle.text.specs.declared.line.Said.TheVariants.{Case}
 use Rattle.std.proofs.lemmas.Bool.{not-true}
 use Rattle.std.specs.Prelude.{Bool, true, false, ◌||◌, ◌≡◌, ℕ, zero, suc, ◌+◌, ◌-◌, ◌≤◌, ◌<◌, eqb, get_or}
-use Rattle.std.proofs.lemmas.Bool.{false≢true}
 use Rattle.std.proofs.Math.Bool.{or-true}
 use Rattle.std.proofs.Math.Path.{refl}
-use Rattle.std.proofs.Common.{sym, ap, ◌∙◌}
+use Rattle.std.proofs.Common.{ap}
 use Rattle.std.proofs.Math.ListN.{length, length-append}
 use Rattle.std.proofs.Math.Seq.{take-append_seam, drop-append_seam, get_or-append_seam, take-length}
 use Rattle.bools.proofs.Laws.Tests.{both}
-use Rattle.text.specs.Line.{field, fields, says, text_length, longest_line, read_line_of}
-use Rattle.text.specs.Number.{is_digit, is_numeral, every, read_digits, read_number}
+use Rattle.text.specs.Laws.Case.{one_case, words_left}
+use Rattle.text.specs.Line.{case_of, field, fields, says, text_length, longest_line, read_line}
+use Rattle.text.specs.Number.{is_digit, is_numeral, every, read_number}
 use Rattle.text.specs.Laws.Number.{every_at, differ}
-use Rattle.text.specs.Words.{is_blank, is_ink, run, is_empty, drop_blanks, word, drop_word}
+use Rattle.text.specs.Words.{is_blank, is_ink, run, drop_blanks, word, drop_word}
 
 pub run_past : (p : ℕ → Bool) (s t : List ℕ) → every p s ≡ true → run p t ≡ 0 → run p (s ++ t) ≡ length s
 unfolding run every
@@ -84,42 +83,22 @@ digit_plain b h = numeral_plain b (digit_numeral b h)
 
 -- ---- a line of numbers and blanks
 
-is_case : Said → Bool
-is_case PassedOver = false
-is_case (Case xs) = true
-is_case Unreadable = false
-
--- no number is read where there is no word
-no_word : (n : ℕ) (s xs : List ℕ) → fields (suc n) s ≡ Case xs → drop_blanks s ≡ [] → ⊥
-unfolding fields field word run read_number read_digits is_empty is_case
-no_word n s xs e h =
-    let nothing : Unreadable ≡ fields (suc n) s = sym (ap (λ (t : List ℕ). field (read_number (word t)) (fields n (drop_word t))) h) in
-    false≢true (ap is_case (nothing ∙ e))
-
-some_word : (n : ℕ) (s xs : List ℕ) → fields (suc n) s ≡ Case xs → is_empty (drop_blanks s) ≡ false
-unfolding is_empty
-some_word n s xs e = go (drop_blanks s) refl
-  where
-    go : (t : List ℕ) → drop_blanks s ≡ t → is_empty t ≡ false
-    go [] h = absurd (no_word n s xs e h)
-    go (b ∷ t) h = refl
-
 module _ (line : List ℕ) (some : 0 < length line) (plain : every is_plain line ≡ true) where
   -- a byte that is none of these does not stand in the line
   none : (k i : ℕ) → i < length line → is_plain k ≡ false → eqb (get_or line i 0) k ≡ false
   none k i h p = ne_eqb _ k (differ is_plain _ k (every_at is_plain line plain i h) p)
 
   module _ (n : ℕ) (xs : List ℕ) (e : fields (suc n) line ≡ Case xs) where
-    plain_says : says (suc n) line ≡ Case xs
+    plain_says : says line ≡ case_of xs
     unfolding says is_plain is_numeral is_digit is_blank
-    plain_says = rw (some_word n line xs e, none 35 0 some refl) e
+    plain_says = rw (words_left n line xs e, none 35 0 some refl) (one_case (suc n) line xs e)
 
-    pub plain_case : length line ≤ longest_line → read_line_of (suc n) line ≡ Case xs
-    unfolding read_line_of text_length is_plain is_numeral is_digit is_blank
+    pub plain_case : length line ≤ longest_line → read_line line ≡ case_of xs
+    unfolding read_line text_length is_plain is_numeral is_digit is_blank
     plain_case fits = rw (le-ltb longest_line (length line) fits, none 13 (length line - 1) (omega arith) refl, take-length line) plain_says
 
-    pub plain_case_return : length line < longest_line → read_line_of (suc n) (line ++ (13 ∷ [])) ≡ Case xs
-    unfolding read_line_of text_length
+    pub plain_case_return : length line < longest_line → read_line (line ++ (13 ∷ [])) ≡ case_of xs
+    unfolding read_line text_length
     plain_case_return fits =
         let longer : length (line ++ (13 ∷ [])) ≡ length line + 1 = length-append line (13 ∷ []) in
         let last : length (line ++ (13 ∷ [])) - 1 ≡ length line = omega arith in

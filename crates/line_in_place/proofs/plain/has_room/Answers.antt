@@ -6,4 +6,4 @@ use Rattle.line_in_place.proofs.plain.has_room.Goals as goal
 
 pub returns : goal.returns
 unfolding longest_plain
-returns c room = omega (arith, leb-true 313 c.saturating_sub.result room)
+returns c room = omega (arith, leb-true _ c.saturating_sub.result room)

@@ -2,18 +2,15 @@
 -- Assumes nothing.
 use Rattle.std.proofs.Common.{List, ap, arith, le-ltb, length, sym, take, ℕ, ◌∙◌, ◌≡◌, ◌≤◌}
 use Rattle.text.specs.Laws.Gather.{too_long}
-use Rattle.text.specs.Line.{says, text_length, longest_line, read_line_of, read_line}
-use Rattle.fields.specs.Fields.{width}
+use Rattle.text.specs.Line.{says, text_length, longest_line, read_line}
 use Rattle.text.proofs.line.read_line.Goals as goal
 
-taken : (n : ℕ) (l : List ℕ) → length l ≤ longest_line → says n (take (text_length l) l) ≡ read_line_of n l
-unfolding read_line_of
-taken n l h = simp (le-ltb _ _ h)
+taken : (l : List ℕ) → length l ≤ longest_line → says (take (text_length l) l) ≡ read_line l
+unfolding read_line
+taken l h = simp (le-ltb _ _ h)
 
 pub returns-then-line-gt-LONGEST : goal.returns-then-line-gt-LONGEST
-unfolding read_line
-returns-then-line-gt-LONGEST c = sym (too_long width _ (omega arith))
+returns-then-line-gt-LONGEST c = sym (too_long _ (omega arith))
 
 pub returns : goal.returns
-unfolding read_line
-returns c = c.read_text.ensures ∙ ap (says width) c.text_of.ensures ∙ taken width _ c.if-line-gt-LONGEST.false
+returns c = c.read_text.ensures ∙ ap says c.text_of.ensures ∙ taken _ c.if-line-gt-LONGEST.false

@@ -4,11 +4,18 @@ use Rattle.std.proofs.Common.{◌*◌, ◌++◌, ◌+◌, ◌<◌, ◌∙◌, �
 use Rattle.std.proofs.lemmas.List.{get_or-append_right, get_or_append_left}
 use Rattle.splice.specs.Splice.{splice}
 use Rattle.splice.proofs.Laws.Splice.{splice_nothing, splice_after, splice_length}
+use Rattle.fields.specs.Fields.{width}
+use Rattle.book_laws.specs.Book.{new_layout}
 use Rattle.book_laws.specs.Bytes.{word_bytes, words_bytes}
+use Rattle.book_laws.specs.Layout.{record_length}
 use Rattle.book_laws.proofs.Laws.Bytes.{number_bytes_length, words_bytes_length, words_bytes_next}
-use Rattle.book_bytes.specs.Stored.{fields_in}
+use Rattle.book_bytes.specs.Record.{fields_in}
 use Rattle.book_bytes.proofs.Parts.{splice_whole}
 use Rattle.book_bytes.proofs.record.Record.to_bytes.Goals as goal
+
+-- the bytes before any is written
+abbrev blank : List ℕ
+blank = replicate (record_length new_layout) 0
 
 -- one field more
 one_more :
@@ -26,7 +33,7 @@ one_more l ws i {m} {n} {w} more is so_far put =
 
 pub loop-i-init : goal.loop-i-init
 unfolding words_bytes
-loop-i-init c = (refl, sym (splice_nothing (replicate 112 0) 0))
+loop-i-init c = (refl, sym (splice_nothing blank 0))
 
 as_long : (m : List ℕ) (at w : ℕ) {n : List ℕ} → at + 4 ≤ length m → n ≡ splice m at (word_bytes w) → length n ≡ length m
 as_long m at w h put =
@@ -34,24 +41,27 @@ as_long m at w h put =
 
 -- the answer and the rating stand after the case
 last_two :
-    (case : List ℕ) (answer rating : ℕ) {m n p : List ℕ} → length case ≡ 26 →
+    (case : List ℕ) (answer rating : ℕ) {m n p : List ℕ} → length case ≡ width →
     let fields = case ++ (answer ∷ rating ∷ []) in
-    m ≡ splice (replicate 112 0) 0 (words_bytes (take 26 fields)) → n ≡ splice m 104 (word_bytes answer) →
-    p ≡ splice n 108 (word_bytes rating) → p ≡ words_bytes fields
+    m ≡ splice blank 0 (words_bytes (take width fields)) → n ≡ splice m (4 * width) (word_bytes answer) →
+    p ≡ splice n (4 * (width + 1)) (word_bytes rating) → p ≡ words_bytes fields
 last_two case answer rating {m} {n} {p} size so_far put_answer put_rating =
-    let fields = case ++ (answer ∷ rating ∷ []) in
-    let long : length fields ≡ 28 = omega (arith, length-append case (answer ∷ rating ∷ [])) in
-    let answer_is : answer ≡ get_or fields 26 0 = sym (get_or-append_right case (answer ∷ rating ∷ []) 26 26 0 size (omega arith)) in
-    let rating_is : rating ≡ get_or fields 27 0 = sym (get_or-append_right case (answer ∷ rating ∷ []) 26 27 0 size (omega arith)) in
-    let answered : n ≡ splice (replicate 112 0) 0 (words_bytes (take 27 fields)) =
-    one_more (replicate 112 0) fields 26 (omega (arith, long)) answer_is so_far put_answer
+    let two = answer ∷ rating ∷ [] in
+    let fields = case ++ two in
+    let long : length fields ≡ width + 2 = omega (arith, length-append case two) in
+    let answer_is : answer ≡ get_or fields width 0 = sym (get_or-append_right case two width width 0 size (omega arith)) in
+    let rating_is : rating ≡ get_or fields (width + 1) 0 =
+    sym (get_or-append_right case two width (width + 1) 0 size (omega arith))
     in
-    let rated : p ≡ splice (replicate 112 0) 0 (words_bytes (take 28 fields)) =
-    one_more (replicate 112 0) fields 27 (omega (arith, long)) rating_is answered put_rating
+    let answered : n ≡ splice blank 0 (words_bytes (take (width + 1) fields)) =
+    one_more blank fields width (omega (arith, long)) answer_is so_far put_answer
+    in
+    let rated : p ≡ splice blank 0 (words_bytes (take (width + 2) fields)) =
+    one_more blank fields (width + 1) (omega (arith, long)) rating_is answered put_rating
     in
     rated
-    ∙ ap (λ (ws : List ℕ). splice (replicate 112 0) 0 (words_bytes ws)) (take_all 28 fields (omega (arith, long)))
-    ∙ splice_whole (replicate 112 0) (words_bytes fields) (omega (arith, words_bytes_length fields, long))
+    ∙ ap (λ (ws : List ℕ). splice blank 0 (words_bytes ws)) (take_all (width + 2) fields (omega (arith, long)))
+    ∙ splice_whole blank (words_bytes fields) (omega (arith, words_bytes_length fields, long))
 
 pub loop-i-preserved : goal.loop-i-preserved
 loop-i-preserved c =
@@ -61,14 +71,14 @@ loop-i-preserved c =
     let rest = c.args.self.now.answer ∷ c.args.self.now.rating ∷ [] in
     let within : at_loop.i < length case = omega arith in (
       as_long _ _ _ (omega (arith, at_loop.invariant.0)) put ∙ at_loop.invariant.0,
-      one_more (replicate 112 0) (fields_in c.args.self.now) at_loop.i (omega (arith, length-append case rest))
+      one_more blank (fields_in c.args.self.now) at_loop.i (omega (arith, length-append case rest))
           (sym (get_or_append_left case rest 0 at_loop.i within)) at_loop.invariant.1 put,
     )
 
 pub returns : goal.returns
 returns c =
     let at_loop = c.loop-i in
-    let all : at_loop.i ≡ 26 = omega arith in
+    let all : at_loop.i ≡ width = omega arith in
     last_two c.args.self.now.case _ _ (omega arith)
-    (at_loop.invariant.1 ∙ ap (λ (k : ℕ). splice (replicate 112 0) 0 (words_bytes (take k (fields_in c.args.self.now)))) all)
+    (at_loop.invariant.1 ∙ ap (λ (k : ℕ). splice blank 0 (words_bytes (take k (fields_in c.args.self.now)))) all)
     c.put_word-2.ensures c.put_word-3.ensures

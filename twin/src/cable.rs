@@ -1,7 +1,7 @@
 // The stages put together for one case, without any refusal: so each refusal's
 // test can be asked by itself, also where another holds too.
 
-use crate::rating::{armoured, loss_counts, three_cores, value, Words};
+use crate::rating::{armoured, dry_soil, loss_counts, three_cores, value, Words};
 use crate::stages::{self, Insulation, Thermal};
 use crate::tables;
 
@@ -39,10 +39,24 @@ impl Cable<'_> {
         u128::from(self.words[index])
     }
 
-    /// Hundredths of a degree between conductor and ambient, 0 where the ambient
-    /// is the hotter: refusal 6, tried before the stages, asks for 500.
-    pub fn rise(&self) -> u128 {
-        u128::try_from(value(self.words, 3) - value(self.words, 4)).unwrap_or(0)
+    /// Hundredths of a degree between a temperature and the ambient, 0 where the
+    /// ambient is the hotter: refusals 6 and 31 are tried before the stages.
+    fn above_ambient(&self, temperature: usize) -> u128 {
+        u128::try_from(value(self.words, temperature) - value(self.words, 4)).unwrap_or(0)
+    }
+
+    /// v, which is that of moist soil where none dries out.
+    fn soil_ratio(&self) -> u128 {
+        if dry_soil(self.words) {
+            self.field(27)
+        } else {
+            stages::MOIST
+        }
+    }
+
+    /// What refusal 10 weighs the dielectric loss against, and what N is left of.
+    pub fn permitted_rise(&self) -> u128 {
+        stages::permitted_rise(self.above_ambient(3), self.soil_ratio(), self.above_ambient(28))
     }
 
     pub fn thermal(&self) -> Thermal {
@@ -51,6 +65,7 @@ impl Cable<'_> {
             t2: self.field(23),
             t3: self.field(24),
             t4: self.field(25),
+            soil_ratio: self.soil_ratio(),
             cores: if three_cores(self.words) { 3 } else { 1 },
         }
     }
@@ -154,7 +169,7 @@ impl Cable<'_> {
     /// nothing where the dielectric loss takes more than the permitted rise.
     pub fn current(&self) -> Option<u128> {
         let (_, dd) = self.dielectric();
-        let n_left = stages::permitted_rise(self.rise()).checked_sub(dd)?;
+        let n_left = self.permitted_rise().checked_sub(dd)?;
         let (_, _, r) = self.conductor(self.skin_arguments());
         let (_, s) = self.sheath();
         let e = stages::effective_resistance(r, s, self.armour_loss(), &self.thermal());

@@ -3,7 +3,7 @@
 // ones at the edge of a limit or of a refusal.
 
 use crate::dice::Dice;
-use crate::rating::{holds, limits, rate, Rated, Words, WIDTH};
+use crate::rating::{dry_soil, holds, limits, rate, value, Rated, Words, WIDTH};
 use crate::sample_cables::with;
 use crate::stages::{temperature_factor, LARGEST_RS_OF_SUM};
 use crate::tables::metal_coefficient;
@@ -77,50 +77,38 @@ fn loss_voltage(u0: i64, dice: &mut Dice) -> i64 {
     }
 }
 
-/// A case of an arrangement, within every limit and past refusals 1 to 7.
+/// v and θx of soil that dries out in half of the cases: the ends of v's limits come
+/// up often, and so do the ambient's and the conductor's temperature.
+fn soil(ambient: i64, theta_c: i64, dice: &mut Dice) -> [i64; 2] {
+    if dice.roll().is_multiple_of(2) {
+        return [0, 0];
+    }
+    let (low, high) = limits(27);
+    [dice.between(low, high), dice.between(ambient, theta_c)]
+}
+
+/// A case of an arrangement, within every limit and past refusals 1 to 7 and 31.
 fn sound_case_of(arrangement: i64, dice: &mut Dice) -> Words {
     let theta_c = dice.between(4000, 25000);
     let ambient = dice.between(-4000, (theta_c - 500).min(6000));
     let [dc, s, ds, di, d] = sound_dimensions(dice);
     let sheath_metal = if matches!(arrangement, 3..=5) { 1 } else { dice.between(1, 6) };
-    let mut case = [
-        arrangement,
-        dice.between(1, 8),
-        dice.between(1000, 6500),
-        theta_c,
-        ambient,
-        dice.between(5000, 20_000_000),
-        dc,
-        s,
-        ds,
-        di,
-        dice.between(0, 300_000),
-        dice.between(100, 800),
-        dice.between(1, 10000),
-        d,
-        sheath_metal,
-        dice.between(1000, 20_000_000),
-        dice.between(-4000, theta_c),
-        0,
-        0,
-        0,
-        0,
-        0,
-        dice.between(1000, 10_000_000),
-        dice.between(0, 10_000_000),
-        dice.between(0, 10_000_000),
-        dice.between(10000, 20_000_000),
-        0,
-        0,
-        0,
-        0,
-    ];
+    let mut case = [0; WIDTH];
+    case[..3].copy_from_slice(&[arrangement, dice.between(1, 8), dice.between(1000, 6500)]);
+    case[3..6].copy_from_slice(&[theta_c, ambient, dice.between(5000, 20_000_000)]);
+    case[6..10].copy_from_slice(&[dc, s, ds, di]);
+    case[10..12].copy_from_slice(&[dice.between(0, 300_000), dice.between(100, 800)]);
+    case[12..15].copy_from_slice(&[dice.between(1, 10000), d, sheath_metal]);
+    case[15..17].copy_from_slice(&[dice.between(1000, 20_000_000), dice.between(-4000, theta_c)]);
+    case[22..24].copy_from_slice(&[dice.between(1000, 10_000_000), dice.between(0, 10_000_000)]);
+    case[24..26].copy_from_slice(&[dice.between(0, 10_000_000), dice.between(10000, 20_000_000)]);
     case[26] = loss_voltage(case[10], dice);
+    case[27..29].copy_from_slice(&soil(ambient, theta_c, dice));
     put_three_cores(&mut case, dice);
     case.map(|value| value as u32)
 }
 
-/// A case within every limit and past refusals 1 to 7, of any arrangement.
+/// A case within every limit and past refusals 1 to 7 and 31, of any arrangement.
 pub fn sound_case(dice: &mut Dice) -> Words {
     let arrangement = dice.between(1, 6);
     sound_case_of(arrangement, dice)
@@ -139,10 +127,27 @@ pub fn disturb(case: &mut Words, times: usize, dice: &mut Dice) {
     }
 }
 
+/// A sound case in soil that dries out above an isotherm which is as hot as the
+/// ambient or the conductor, or differs from it by the least step or by any.
+fn near_isotherm(dice: &mut Dice) -> Words {
+    let mut case = sound_case(dice);
+    let (low, high) = limits(27);
+    let neighbour = value(&case, if dice.roll().is_multiple_of(2) { 3 } else { 4 });
+    let isotherm = match dice.roll() % 5 {
+        0 => neighbour - 1,
+        1 | 2 => neighbour,
+        3 => neighbour + 1,
+        _ => dice.between(limits(28).0, limits(28).1),
+    };
+    case[27] = dice.between(low, high) as u32;
+    case[28] = isotherm as u32;
+    case
+}
+
 /// A case that may be rated and may get any refusal.
 pub fn mixed_case(dice: &mut Dice) -> Words {
     let mut case = sound_case(dice);
-    match dice.roll() % 5 {
+    match dice.roll() % 6 {
         // Without voltage there is no dielectric loss, and most cases are rated.
         0 => case[10] = 0,
         // With the lowest thermal resistances too, some currents are refused.
@@ -152,11 +157,12 @@ pub fn mixed_case(dice: &mut Dice) -> Words {
         }
         2 => disturb(&mut case, 1, dice),
         // A field of another sound case is in its own limits but may not go
-        // with the rest: refusals 3 to 7.
+        // with the rest: refusals 3 to 7 and 31.
         3 => {
             let field = dice.roll() as usize % WIDTH;
             case[field] = sound_case(dice)[field];
         }
+        4 => case = near_isotherm(dice),
         _ => {}
     }
     case
@@ -181,6 +187,19 @@ fn first_rated(dice: &mut Dice, sound: impl Fn(&mut Dice) -> Words) -> (Words, R
     }
 }
 
+/// A rated case of one arrangement, or of any, in soil that dries out, and its rating.
+pub fn rated_dry_case(arrangement: Option<i64>, dice: &mut Dice) -> (Words, Rated) {
+    loop {
+        let rated = match arrangement {
+            Some(arrangement) => rated_case_of(arrangement, dice),
+            None => rated_case(dice),
+        };
+        if dry_soil(&rated.0) {
+            return rated;
+        }
+    }
+}
+
 /// A rated case of any arrangement, and its rating.
 pub fn rated_case(dice: &mut Dice) -> (Words, Rated) {
     first_rated(dice, sound_case)
@@ -192,7 +211,7 @@ pub fn rated_case_of(arrangement: i64, dice: &mut Dice) -> (Words, Rated) {
 }
 
 /// A sound case with one field at one of its limits or next to it, on either
-/// side; the arrangement and the conductor code have limits too, and a field
+/// side; the arrangement and the conductor code have limits too, and the field
 /// without a meaning has 0 for both.
 pub fn near_limit(dice: &mut Dice) -> Words {
     let mut case = sound_case(dice);
@@ -238,15 +257,16 @@ pub fn at_turn(dice: &mut Dice) -> Words {
 
 /// The case of a number, counted from 0: every kind in turn.
 pub fn drawn_case(dice: &mut Dice, number: usize) -> Words {
-    match number % 6 {
+    match number % 7 {
         0 => rated_case(dice).0,
         1 => sound_case(dice),
         2 => mixed_case(dice),
         3 => near_limit(dice),
         4 => at_turn(dice),
+        5 => near_isotherm(dice),
         _ => {
             let mut case = sound_case(dice);
-            disturb(&mut case, 1 + number / 6 % WIDTH, dice);
+            disturb(&mut case, 1 + number / 7 % WIDTH, dice);
             case
         }
     }

@@ -7,6 +7,7 @@ mod codes;
 pub mod common_sheath;
 mod current;
 mod dielectric;
+pub mod dry_soil;
 mod eddy;
 mod limits;
 mod loss_voltage;
@@ -36,15 +37,22 @@ pub fn groups() -> Vec<Group> {
         limits::limits(),
         codes::metals(),
         codes::stray(),
-        loss_voltage::unassigned(),
+        dry_soil::ratios(),
+        dry_soil::isotherm_limits(),
+        dry_soil::stray(),
         relations::geometry(),
         relations::heat(),
+        dry_soil::isotherms(),
+        dry_soil::below_zero(),
         skin::skin(),
         eddy::eddy(),
         common_sheath::formulas(),
         common_sheath::roundings(),
         loss_voltage::loss_voltage(),
+        dry_soil::moist(),
+        dry_soil::thousandths(),
         dielectric::dielectric(),
+        dry_soil::dielectric(),
         current::current(),
         pairs::pairs(),
     ]

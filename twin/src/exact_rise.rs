@@ -4,7 +4,7 @@
 
 use crate::ends::Chosen;
 use crate::fraction::Fraction;
-use crate::rating::{armoured, loss_counts, three_cores, value, Words};
+use crate::rating::{armoured, dry_soil, loss_counts, three_cores, value, Words};
 use crate::stages;
 use crate::tables;
 
@@ -34,9 +34,25 @@ impl Heating {
     }
 }
 
-/// The permitted rise of a rated case in 10^-9 K.
+/// Hundredths of a degree between a temperature of a rated case and the ambient.
+fn above_ambient(case: &Words, temperature: usize) -> Fraction {
+    Fraction::whole((value(case, temperature) - value(case, 4)).unsigned_abs().into())
+}
+
+/// v as a ratio: 1 where no soil dries out.
+fn soil_ratio(case: &Words) -> Fraction {
+    if dry_soil(case) {
+        Fraction::new(case[27].into(), 1000)
+    } else {
+        Fraction::whole(1)
+    }
+}
+
+/// The permitted rise of a rated case in 10^-9 K: θc - θa + (v - 1)(θx - θa).
 pub fn permitted_rise(case: &Words) -> Fraction {
-    Fraction::whole(10_000_000 * u128::from((value(case, 3) - value(case, 4)).unsigned_abs()))
+    let beyond_moist = soil_ratio(case).minus(&Fraction::whole(1)).expect("v of a rated case");
+    let dry_zone = beyond_moist.times(&above_ambient(case, 28));
+    above_ambient(case, 3).plus(&dry_zone).times(&Fraction::whole(10_000_000))
 }
 
 /// x/(1 + x).
@@ -196,9 +212,14 @@ impl Cable<'_> {
         leading.times(&self.reactance_unit()).over(&below)
     }
 
-    /// Wd (T1/2 + n (T2 + T3 + T4)) in 10^-9 K.
+    /// T3 + v T4.
+    fn outside(&self) -> Fraction {
+        self.field(24).plus(&soil_ratio(self.words).times(&self.field(25)))
+    }
+
+    /// Wd (T1/2 + n (T2 + T3 + v T4)) in 10^-9 K.
     fn dielectric_rise(&self) -> Fraction {
-        let outer = self.field(23).plus(&self.field(24)).plus(&self.field(25));
+        let outer = self.field(23).plus(&self.outside());
         let half_t1 = self.field(22).over(&Fraction::whole(2));
         let thermal = half_t1.plus(&self.cores().times(&outer));
         self.dielectric_loss().times(&thermal).over(&Fraction::whole(1_000_000_000))
@@ -206,13 +227,13 @@ impl Cable<'_> {
 
     // Stage 10.
 
-    /// E = (R T1 + n (R + S) T2 + n (R + S + W)(T3 + T4))/10^6.
+    /// E = (R T1 + n (R + S) T2 + n (R + S + W)(T3 + v T4))/10^6.
     fn effective_resistance(&self) -> Fraction {
         let r = self.ac_resistance();
         let with_sheath = r.plus(&self.sheath_loss());
         let with_armour = with_sheath.plus(&self.armour_loss());
         let bedding = with_sheath.times(&self.field(23));
-        let outer = with_armour.times(&self.field(24).plus(&self.field(25)));
+        let outer = with_armour.times(&self.outside());
         let all_cores = self.cores().times(&bedding.plus(&outer));
         r.times(&self.field(22)).plus(&all_cores).over(&Fraction::whole(1_000_000))
     }

@@ -1,6 +1,6 @@
-// A case's answer: the refusals 1 to 11 tried in rising order, then the rating
-// in mA and the sheet. Refusals 1 to 7 are decided on the words alone; only a
-// case that passes them reaches a stage, so the stages see fields in limits.
+// A case's answer: the refusals 1 to 6, 31 and 7 to 11 tried in this order, then
+// the rating in mA and the sheet. Those up to 7 are decided on the words alone; only
+// a case that passes them reaches a stage, so the stages see fields in limits.
 
 use crate::cable::Cable;
 use crate::stages;
@@ -31,8 +31,9 @@ pub fn from_older(older: &[u32; OLDER_WIDTH]) -> Words {
 pub const SKIN_LIMIT: u128 = 7_840_000_000_000;
 pub const CURRENT_LIMIT: u128 = 5_000_000;
 
-/// Lowest and highest permitted value of fields 2 to 26, in their order.
-const LIMITS: [(i64, i64); 25] = [
+/// Lowest and highest permitted value of fields 2 to 28, in their order. Field 27
+/// may be 0 as well.
+const LIMITS: [(i64, i64); 27] = [
     (1000, 6500),
     (4000, 25000),
     (-4000, 6000),
@@ -58,15 +59,17 @@ const LIMITS: [(i64, i64); 25] = [
     (0, 10_000_000),
     (10000, 20_000_000),
     (0, 300_000),
+    (1000, 5000),
+    (-4000, 25000),
 ];
 
-/// The limits of any field: those of refusals 1 and 2, and of 3. A field without a
+/// The limits of any field: those of refusals 1 and 2, and of 3. The field without a
 /// meaning must be zero, by refusal 4.
 pub fn limits(field: usize) -> (i64, i64) {
     match field {
         0 => (1, 6),
         1 => (1, 8),
-        27..WIDTH => (0, 0),
+        29..WIDTH => (0, 0),
         _ => LIMITS[field - 2],
     }
 }
@@ -74,7 +77,7 @@ pub fn limits(field: usize) -> (i64, i64) {
 /// A field's value; the temperatures are two's complement.
 pub fn value(case: &Words, field: usize) -> i64 {
     match field {
-        3 | 4 | 16 | 19 => i64::from(case[field] as i32),
+        3 | 4 | 16 | 19 | 28 => i64::from(case[field] as i32),
         _ => i64::from(case[field]),
     }
 }
@@ -100,19 +103,24 @@ pub fn loss_counts(case: &Words) -> bool {
     case[10] >= case[26]
 }
 
+/// Whether soil dries out around the cable: field 27 is v then, and 0 else.
+pub fn dry_soil(case: &Words) -> bool {
+    case[27] != 0
+}
+
 /// Whether the case's arrangement has a field: the armour's are the SL cable's,
-/// and c both three-core cables'. The last fields have no meaning in any.
+/// and c both three-core cables'. The last field has no meaning in any.
 fn has_field(case: &Words, field: usize) -> bool {
     match field {
         17..=19 | 21 => armoured(case),
         20 => three_cores(case),
-        27.. => false,
+        29.. => false,
         _ => true,
     }
 }
 
-// Refusals 1 to 7. Each looks at 32-bit values held in i64 and multiplies by
-// 105 at most, so none can overflow whatever the words are.
+// Refusals 1 to 7 and 31. Each looks at 32-bit values held in i64 and multiplies
+// by 105 at most, so none can overflow whatever the words are.
 
 fn arrangement_wrong(case: &Words) -> bool {
     !(1..=6).contains(&case[0])
@@ -122,14 +130,23 @@ fn conductor_wrong(case: &Words) -> bool {
     !(1..=8).contains(&case[1])
 }
 
-fn limit_passed(case: &Words) -> bool {
-    (2..).zip(LIMITS).any(|(field, (low, high))| {
-        has_field(case, field) && !(low..=high).contains(&value(case, field))
-    })
+/// Whether a field may have its value. The isotherm's limits hold without dry soil
+/// too.
+fn within_limits(case: &Words, field: usize, (low, high): (i64, i64)) -> bool {
+    (low..=high).contains(&value(case, field)) || (field == 27 && !dry_soil(case))
 }
 
+fn limit_passed(case: &Words) -> bool {
+    (2..)
+        .zip(LIMITS)
+        .any(|(field, limits)| has_field(case, field) && !within_limits(case, field, limits))
+}
+
+/// Whether a field that must be zero is not: one that the arrangement has not, and
+/// the isotherm's where no soil dries out.
 fn field_stray(case: &Words) -> bool {
-    (0..).zip(case).any(|(field, &word)| !has_field(case, field) && word != 0)
+    let must_be_zero = |field| !has_field(case, field) || (field == 28 && !dry_soil(case));
+    (0..).zip(case).any(|(field, &word)| must_be_zero(field) && word != 0)
 }
 
 fn geometry_wrong(case: &Words) -> bool {
@@ -152,24 +169,35 @@ fn heat_wrong(case: &Words) -> bool {
         || (armoured(case) && value(case, 19) > conductor)
 }
 
+/// The soil dries out where it is hotter than the critical isotherm, which must lie
+/// between the ambient and the conductor.
+fn isotherm_wrong(case: &Words) -> bool {
+    dry_soil(case) && !(value(case, 4)..=value(case, 3)).contains(&value(case, 28))
+}
+
 fn metal_wrong(case: &Words) -> bool {
     let needs_lead = matches!(case[0], 3..=5);
     (needs_lead && case[14] != tables::LEAD) || (armoured(case) && case[17] != tables::STEEL)
 }
 
-const EARLY_REFUSALS: [fn(&Words) -> bool; 7] = [
-    arrangement_wrong,
-    conductor_wrong,
-    limit_passed,
-    field_stray,
-    geometry_wrong,
-    heat_wrong,
-    metal_wrong,
+type EarlyTest = fn(&Words) -> bool;
+type LateTest = fn(&Cable) -> bool;
+
+/// Refusals with their tests, in the order in which they are tried.
+const EARLY_REFUSALS: [(u32, EarlyTest); 8] = [
+    (1, arrangement_wrong),
+    (2, conductor_wrong),
+    (3, limit_passed),
+    (4, field_stray),
+    (5, geometry_wrong),
+    (6, heat_wrong),
+    (31, isotherm_wrong),
+    (7, metal_wrong),
 ];
 
-/// The lowest of refusals 1 to 7 that holds.
+/// The first of them that holds.
 fn early_refusal(case: &Words) -> Option<u32> {
-    (1..).zip(EARLY_REFUSALS).find(|(_, holds)| holds(case)).map(|(number, _)| number)
+    EARLY_REFUSALS.iter().find(|(_, holds)| holds(case)).map(|&(number, _)| number)
 }
 
 // Refusals 8 to 11, on stage values.
@@ -184,9 +212,9 @@ pub fn eddy_refused(b_high: u128, rs: u128) -> bool {
     5 * b_high > rs
 }
 
-/// Refusal 10: the dielectric loss takes over nine tenths of the rise.
-pub fn dielectric_refused(dd: u128, rise: u128) -> bool {
-    10 * dd > 9 * stages::permitted_rise(rise)
+/// Refusal 10: the dielectric loss takes over nine tenths of the permitted rise.
+pub fn dielectric_refused(dd: u128, permitted: u128) -> bool {
+    10 * dd > 9 * permitted
 }
 
 /// Refusal 11: the rating is over 5000 A.
@@ -205,25 +233,27 @@ fn eddy_holds(cable: &Cable) -> bool {
 }
 
 fn dielectric_holds(cable: &Cable) -> bool {
-    dielectric_refused(cable.dielectric().1, cable.rise())
+    dielectric_refused(cable.dielectric().1, cable.permitted_rise())
 }
 
 fn current_holds(cable: &Cable) -> bool {
     cable.current().is_some_and(current_refused)
 }
 
-const LATE_REFUSALS: [fn(&Cable) -> bool; 4] =
-    [skin_holds, eddy_holds, dielectric_holds, current_holds];
+/// After the early ones, in this order.
+const LATE_REFUSALS: [(u32, LateTest); 4] =
+    [(8, skin_holds), (9, eddy_holds), (10, dielectric_holds), (11, current_holds)];
 
-/// Whether the test of a refusal, 1 to 11, holds of a case, whatever the others
-/// say. For 8 to 11 its codes must be in the tables and Di not below ds, and
-/// the fields near enough to their limits that no product overflows.
+/// Whether the test of a refusal, 1 to 11 or 31, holds of a case, whatever the
+/// others say. For 8 to 11 its codes must be in the tables, Di not below ds and v
+/// not below that of moist soil, and the fields near enough to their limits that no
+/// product overflows.
 pub fn holds(refusal: u32, case: &Words) -> bool {
-    let index = refusal as usize - 1;
-    match EARLY_REFUSALS.get(index) {
-        Some(early) => early(case),
-        None => LATE_REFUSALS[index - EARLY_REFUSALS.len()](&Cable::of(case)),
+    if let Some((_, early)) = EARLY_REFUSALS.iter().find(|(number, _)| *number == refusal) {
+        return early(case);
     }
+    let late = LATE_REFUSALS.iter().find(|(number, _)| *number == refusal);
+    late.expect("a refusal of a case").1(&Cable::of(case))
 }
 
 fn refuse(number: u32, when: bool) -> Result<(), u32> {
@@ -243,8 +273,9 @@ fn rate_cable(cable: &Cable) -> Result<(u32, [u64; 13]), u32> {
     let (x, s) = cable.sheath();
     let w = cable.armour_loss();
     let (wd, dd) = cable.dielectric();
-    refuse(10, dielectric_refused(dd, cable.rise()))?;
-    let n_left = stages::rise_left(cable.rise(), dd);
+    let permitted = cable.permitted_rise();
+    refuse(10, dielectric_refused(dd, permitted))?;
+    let n_left = stages::rise_left(permitted, dd);
     let e = stages::effective_resistance(r, s, w, &cable.thermal());
     let current = stages::largest_current(n_left, e);
     refuse(11, current_refused(current))?;

@@ -1,5 +1,6 @@
 // Real-looking cables, which the edge cases and the tests alter: one of each
-// arrangement, and of the last one for each of its formulas.
+// arrangement, of the last one for each of its formulas, and one for each of the
+// fields that came later.
 
 use crate::rating::Words;
 
@@ -54,8 +55,8 @@ pub const LOW_VOLTAGE: Words = [
     6200, 0, 0, 0, 849, 0, 450_000, 0, 83_000, 674_000, 6000, 0, 0, 0,
 ];
 
-/// All whose loss counts at every voltage, by rising arrangement: the first four
-/// are single-core, and the last two have a common sheath.
+/// All in moist soil whose loss counts at every voltage, by rising arrangement:
+/// the first four are single-core, and the last two have a common sheath.
 pub const ALL: [Words; 7] = [
     TREFOIL,
     FLAT,
@@ -64,6 +65,13 @@ pub const ALL: [Words; 7] = [
     SL_TYPE,
     COMMON_SHEATH,
     COMMON_ALUMINIUM_SHEATH,
+];
+
+/// The SL cable in soil that dries out above 50 degrees, to two and a half times its
+/// resistivity.
+pub const DRY_SOIL: Words = [
+    5, 1, 5000, 8500, 1500, 124_000, 1450, 4200, 1750, 3600, 19000, 350, 1000, 4000, 1, 1_000_000,
+    6000, 6, 250_000, 5500, 2500, 11000, 350_000, 40_000, 60_000, 450_000, 0, 2500, 5000, 0,
 ];
 
 /// The case with some fields set anew, in order: a later change overrides.

@@ -1,7 +1,7 @@
-// Stages 1 to 10 of document 01 and the common sheath's of document 02, one
-// function for each quantity they name. Ohms are in 10^-16 ohm/m, pure numbers in
-// parts of T = 10^12, temperatures in hundredths of a degree. With the fields'
-// limits every product fits u128.
+// Stages 1 to 10 of document 01, with the common sheath's and the dry soil's of
+// document 02, one function for each quantity they name. Ohms are in 10^-16
+// ohm/m, pure numbers in parts of T = 10^12, temperatures in hundredths of a
+// degree. With the fields' limits every product fits u128.
 
 use crate::whole::{down, square_root, up};
 
@@ -310,7 +310,7 @@ pub fn armour_loss_screened(w_loss: u128, v2_low: u128) -> u128 {
     up(w_loss * up(T * T, T + v2_low), T)
 }
 
-// Stage 9: the dielectric loss and what it leaves of the rise.
+// Stage 9: the dielectric loss and what it leaves of the permitted rise.
 
 /// What stage 9 takes of the insulation: permittivity in hundredths, volts to
 /// earth, loss factor in 10^-5, and the lower end of the logarithm of Di/ds.
@@ -330,29 +330,43 @@ pub fn dielectric_loss(insulation: &Insulation, b_high: u128) -> u128 {
     )
 }
 
-/// The thermal resistances T1 to T4, 10^-6 K m/W, and the number of cores n.
+/// The ratio of soil that stays moist, in thousandths.
+pub const MOIST: u128 = 1000;
+
+/// The thermal resistances T1 to T4, 10^-6 K m/W, the ratio of dry to moist soil
+/// resistivity in thousandths, and the number of cores n.
 pub struct Thermal {
     pub t1: u128,
     pub t2: u128,
     pub t3: u128,
     pub t4: u128,
+    pub soil_ratio: u128,
     pub cores: u128,
 }
 
-/// dd in 10^-9 K. T1 counts half: hence the 2 in the divisor and in 2n.
-pub fn dielectric_rise(wd: u128, thermal: &Thermal) -> u128 {
-    let outer = thermal.t2 + thermal.t3 + thermal.t4;
-    up(wd * (thermal.t1 + 2 * thermal.cores * outer), 2_000_000_000)
+impl Thermal {
+    /// T4 of the soil as it is, in 10^-9 K m/W, so that nothing is rounded yet.
+    pub fn soil(&self) -> u128 {
+        self.soil_ratio * self.t4
+    }
 }
 
-/// The permitted rise in 10^-9 K, from hundredths of a degree.
-pub fn permitted_rise(rise: u128) -> u128 {
-    10_000_000 * rise
+/// dd in 10^-9 K. T1 counts half: hence the 2 in the divisor and in 2n. Wd is below
+/// 4 x 10^16 and the sum below 10^12.
+pub fn dielectric_rise(wd: u128, thermal: &Thermal) -> u128 {
+    let outer = 1000 * (thermal.t2 + thermal.t3) + thermal.soil();
+    up(wd * (1000 * thermal.t1 + 2 * thermal.cores * outer), 2_000_000_000_000)
+}
+
+/// The permitted rise in 10^-9 K, from the conductor's and the critical isotherm's
+/// above the ambient, both in hundredths of a degree. The ratio is at least MOIST.
+pub fn permitted_rise(rise: u128, soil_ratio: u128, isotherm_rise: u128) -> u128 {
+    10_000_000 * rise + 10_000 * (soil_ratio - MOIST) * isotherm_rise
 }
 
 /// N, what is left for the current. The caller has seen that dd is smaller.
-pub fn rise_left(rise: u128, dd: u128) -> u128 {
-    permitted_rise(rise) - dd
+pub fn rise_left(permitted: u128, dd: u128) -> u128 {
+    permitted - dd
 }
 
 // Stage 10: the rating.
@@ -362,7 +376,8 @@ pub fn effective_resistance(r: u128, s_loss: u128, w_loss: u128, thermal: &Therm
     let n = thermal.cores;
     let conductor = up(r * thermal.t1, 1_000_000);
     let bedding = up(n * (r + s_loss) * thermal.t2, 1_000_000);
-    let outer = up(n * (r + s_loss + w_loss) * (thermal.t3 + thermal.t4), 1_000_000);
+    let outer = 1000 * thermal.t3 + thermal.soil();
+    let outer = up(n * (r + s_loss + w_loss) * outer, 1_000_000_000);
     conductor + bedding + outer
 }
 

@@ -4,7 +4,8 @@
 
 use std::f64::consts::PI;
 
-/// The fields of a case that have a meaning, in ohm/m, K m/W, V, Hz, degrees and mm.
+/// The fields of a case that have a meaning, in ohm/m, K m/W, V, Hz, degrees and mm;
+/// v is a ratio, 1 where no soil dries out.
 pub struct Cable {
     pub arrangement: u32,
     pub conductor: u32,
@@ -26,6 +27,8 @@ pub struct Cable {
     pub d_armour: f64,
     pub thermal: [f64; 4],
     pub loss_voltage: f64,
+    pub v: f64,
+    pub theta_x: f64,
 }
 
 /// Table 1: temperature coefficient at 20 degrees, per K.
@@ -86,6 +89,8 @@ impl Cable {
             d_armour: mm(f[21]),
             thermal: [k_m_per_w(f[22]), k_m_per_w(f[23]), k_m_per_w(f[24]), k_m_per_w(f[25])],
             loss_voltage: f64::from(f[26]),
+            v: if f[27] == 0 { 1.0 } else { f64::from(f[27]) * 1e-3 },
+            theta_x: degrees(f[28]),
         }
     }
 
@@ -192,14 +197,21 @@ impl Cable {
         self.omega() * capacitance * self.u0 * self.u0 * self.tan_delta
     }
 
-    /// 1.4.1.1: the rating in amperes.
+    /// 1.4.2.1's rise at which the rating is reached, what the dry zone adds to it
+    /// among it: with v = 1 that of 1.4.1.1.
+    pub fn permitted_rise(&self) -> f64 {
+        self.theta_c - self.theta_a + (self.v - 1.0) * (self.theta_x - self.theta_a)
+    }
+
+    /// The rating in amperes by 1.4.2.1, which with v = 1 is 1.4.1.1.
     pub fn rating(&self) -> f64 {
         let three_cores = matches!(self.arrangement, 5 | 6);
         let n = if three_cores { 3.0 } else { 1.0 };
         let [t1, t2, t3, t4] = self.thermal;
         let r = self.ac_resistance();
-        let rise = self.theta_c - self.theta_a;
-        let left = rise - self.dielectric_loss() * (0.5 * t1 + n * (t2 + t3 + t4));
+        let t4 = self.v * t4;
+        let dielectric_rise = self.dielectric_loss() * (0.5 * t1 + n * (t2 + t3 + t4));
+        let left = self.permitted_rise() - dielectric_rise;
         let sheath = 1.0 + self.lambda1();
         let armour = sheath + self.lambda2();
         (left / (r * t1 + n * r * sheath * t2 + n * r * armour * (t3 + t4))).sqrt()

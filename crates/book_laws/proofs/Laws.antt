@@ -24,4 +24,5 @@ pub mod Instances
 pub mod CommonSheath
 pub mod Older
 pub mod LowVoltage
+pub mod DrySoil
 pub mod Named

@@ -7,12 +7,13 @@ use Rattle.std.specs.Prelude.{true, cond, List, [], ◌∷◌, ◌++◌, ◌≡�
 use Rattle.bools.specs.First.{or_refused}
 use Rattle.exact.specs.Fraction.{whole, ◌≤F◌, ◌<F◌}
 use Rattle.splice.specs.Splice.{splice}
+use Rattle.rating.specs.Values.{permitted_of}
 use Rattle.rating.specs.Chosen.{Chosen}
 use Rattle.rating.specs.Arrangements.{own}
 use Rattle.rating.specs.Allowed.{Allowed}
 use Rattle.rating.specs.Refusals.{refusals_of}
 use Rattle.rating.specs.Rate.{rated, rate_of}
-use Rattle.rating.specs.Exact.{exact_rise, permitted_of}
+use Rattle.rating.specs.Exact.{exact_rise}
 use Rattle.rating.specs.Laws.Logarithms.{lowest}
 use Rattle.book_laws.specs.Bytes.{below, stands}
 use Rattle.book_laws.specs.Layout.{record_length, trailer_length, rbk1}

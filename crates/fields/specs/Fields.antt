@@ -118,3 +118,11 @@ t4 x = word x 25
 -- the voltage to earth from which the dielectric loss counts
 abbrev pub loss_voltage : List ℕ → ℕ
 loss_voltage x = word x 26
+
+-- ρ: the resistivity of dry soil in thousandths of that of moist soil, or 0 where no soil dries out
+abbrev pub dry_ratio : List ℕ → ℕ
+dry_ratio x = word x 27
+
+-- θx: the temperature of the critical isotherm, within which the soil dries out
+abbrev pub isotherm : List ℕ → ℤ
+isotherm x = temperature x 28

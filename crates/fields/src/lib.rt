@@ -77,3 +77,9 @@ pub const T4: usize = 25;
 
 // The voltage to earth from which the dielectric loss counts.
 pub const LOSS_VOLTAGE: usize = 26;
+
+// ρ: the resistivity of dry soil in thousandths of that of moist soil, or 0 where no soil dries out.
+pub const DRY_RATIO: usize = 27;
+
+// θx: the temperature of the critical isotherm, within which the soil dries out.
+pub const ISOTHERM: usize = 28;

@@ -6,6 +6,7 @@ pub mod Temperature
 pub mod Octaves
 pub mod Current
 pub mod Ranges
+pub mod Soil
 pub mod Between
 pub mod LogEndsOrder
 pub mod LogRange

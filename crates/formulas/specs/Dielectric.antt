@@ -7,25 +7,22 @@ use Rattle.exact.specs.Fraction.{Fraction, whole, ◌*F◌, ◌/F◌}
 unfoldable pub dielectric_loss : ℕ → ℕ → ℕ → ℕ → ℕ → ℕ
 dielectric_loss e u0 t b l = up (e * (u0 * u0) * t * b) (360 * l)
 
--- the thermal resistance that the loss meets, twice over: T1 counts half, and the rest n times
+-- the thermal resistance that the loss meets, twice over, in 10^-9 K·m/W: T1 counts half, and the rest n times. t1 to t3
+-- are in 10^-6 K·m/W, and t4 in 10^-9.
 unfoldable pub dielectric_resistance : ℕ → ℕ → ℕ → ℕ → ℕ → ℕ
-dielectric_resistance n t1 t2 t3 t4 = t1 + 2 * n * (t2 + t3 + t4)
+dielectric_resistance n t1 t2 t3 t4 = 1000 * t1 + 2 * n * (1000 * (t2 + t3) + t4)
 
 -- the paper's dd in 10^-9 K
 unfoldable pub dielectric_rise : ℕ → ℕ → ℕ → ℕ → ℕ → ℕ → ℕ
-dielectric_rise n wd t1 t2 t3 t4 = up (wd * dielectric_resistance n t1 t2 t3 t4) (2 * 10 ^ 9)
+dielectric_rise n wd t1 t2 t3 t4 = up (wd * dielectric_resistance n t1 t2 t3 t4) (2 * 10 ^ 12)
 
--- the permitted rise in 10^-9 K, from θc - θa in hundredths of a kelvin
-unfoldable pub permitted_rise : ℕ → ℕ
-permitted_rise rise = 10 ^ 7 * rise
-
--- the paper's N. Refusal 10 keeps dd below the permitted rise.
+-- the paper's N, from the permitted rise. Refusal 10 keeps dd below it.
 unfoldable pub current_rise : ℕ → ℕ → ℕ
-current_rise rise dd = permitted_rise rise - dd
+current_rise permitted dd = permitted - dd
 
 -- from a logarithm of Di/ds itself, where l above is T times as large
 unfoldable pub dielectric_loss* : ℕ → ℕ → ℕ → Fraction → Fraction → Fraction
 dielectric_loss* e u0 t b log = whole (e * (u0 * u0) * t) *F b /F (whole (360 * 10 ^ 12) *F log)
 
 unfoldable pub dielectric_rise* : ℕ → Fraction → ℕ → ℕ → ℕ → ℕ → Fraction
-dielectric_rise* n wd t1 t2 t3 t4 = wd *F whole (dielectric_resistance n t1 t2 t3 t4) /F whole (2 * 10 ^ 9)
+dielectric_rise* n wd t1 t2 t3 t4 = wd *F whole (dielectric_resistance n t1 t2 t3 t4) /F whole (2 * 10 ^ 12)

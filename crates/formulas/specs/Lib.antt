@@ -12,6 +12,7 @@ pub mod Spacing
 pub mod Sheath
 pub mod CommonSheath
 pub mod Armour
+pub mod Soil
 pub mod Dielectric
 pub mod Rating
 pub mod Refusals

@@ -5,10 +5,10 @@ use Rattle.exact.specs.Rounding.{up, down}
 use Rattle.exact.specs.Root.{root}
 use Rattle.exact.specs.Fraction.{Fraction, whole, ◌+F◌, ◌*F◌, ◌/F◌, square}
 
--- the paper's E, in 10^-16 K/A²
+-- the paper's E, in 10^-16 K/A². t4 is in 10^-9 K·m/W, and the other three in 10^-6.
 unfoldable pub unit_rise : ℕ → ℕ → ℕ → ℕ → ℕ → ℕ → ℕ → ℕ → ℕ
 unit_rise n r s w t1 t2 t3 t4 =
-    up (r * t1) (10 ^ 6) + up (n * (r + s) * t2) (10 ^ 6) + up (n * (r + s + w) * (t3 + t4)) (10 ^ 6)
+    up (r * t1) (10 ^ 6) + up (n * (r + s) * t2) (10 ^ 6) + up (n * (r + s + w) * (1000 * t3 + t4)) (10 ^ 9)
 
 -- the largest I with I² E ≤ 10^13 N, in mA, from N and E
 unfoldable pub rating : ℕ → ℕ → ℕ
@@ -18,7 +18,7 @@ unfoldable pub unit_rise* : ℕ → Fraction → Fraction → Fraction → ℕ �
 unit_rise* n r s w t1 t2 t3 t4 =
     r *F whole t1 /F whole (10 ^ 6)
     +F whole n *F (r +F s) *F whole t2 /F whole (10 ^ 6)
-    +F whole n *F (r +F s +F w) *F whole (t3 + t4) /F whole (10 ^ 6)
+    +F whole n *F (r +F s +F w) *F whole (1000 * t3 + t4) /F whole (10 ^ 9)
 
 -- the exact rise at a current in mA, in 10^-9 K, from E and dd
 unfoldable pub rise* : Fraction → Fraction → Fraction → Fraction

@@ -10,7 +10,11 @@ pub mod OnePoint
 pub mod SlType
 pub mod CommonSheath
 pub mod Arrangements
+pub mod DielectricRise
 pub mod LossVoltage
+pub mod Moist
+pub mod DrySoil
+pub mod Older
 pub mod Logarithms
 pub mod Stage10
 pub mod Bounds
@@ -20,4 +24,5 @@ pub mod Passed
 pub mod Margin
 pub mod Answers
 pub mod Edges
+pub mod DrySoilEdges
 pub mod Instances

@@ -2,9 +2,10 @@
 use Rattle.std.proofs.Common.{◌≡◌, ◌∙◌, List, ℕ, ap, cond, eqb, false, refl}
 use Rattle.rating.specs.declared.refusal.Refusal.{Refusal}
 use Rattle.rating.specs.declared.refusal.Refusal as Code
+use Rattle.bools.specs.First.{or_refused}
 use Rattle.rating.specs.Refusal.{number_of}
 use Rattle.rating.specs.Arrangements.{no_arrangement, own}
-use Rattle.rating.specs.FieldRefusals.{arrangement_refused, field_refusal}
+use Rattle.rating.specs.FieldRefusals.{field_refusals, field_refusal}
 use Rattle.rating.specs.Rate.{refused, judged, rate_of, rate_of_is}
 
 numbered : (refusal : Refusal) → eqb (number_of refusal) 0 ≡ false
@@ -14,6 +15,7 @@ numbered Code.TheVariants.Limit = refl
 numbered Code.TheVariants.Stray = refl
 numbered Code.TheVariants.Geometry = refl
 numbered Code.TheVariants.Heat = refl
+numbered Code.TheVariants.Isotherm = refl
 numbered Code.TheVariants.Metal = refl
 numbered Code.TheVariants.Skin = refl
 numbered Code.TheVariants.Eddy = refl
@@ -25,5 +27,5 @@ fields_refused x refusal given =
     rate_of_is x ∙ (λ i. cond (eqb (given i) 0) (judged x) (refused (given i))) ∙ simp (numbered refusal)
 
 pub none_has : (x : List ℕ) → own x ≡ no_arrangement → rate_of x ≡ refused 1
-unfolding no_arrangement field_refusal arrangement_refused
+unfolding or_refused no_arrangement field_refusals
 none_has x none = fields_refused x Code.TheVariants.Arrangement (simp (ap (λ a. a.known) none))

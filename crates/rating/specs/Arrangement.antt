@@ -6,7 +6,7 @@ use Rattle.exact.specs.Fraction.{Fraction}
 use Rattle.formulas.specs.Dielectric.{dielectric_rise, dielectric_rise*}
 use Rattle.fields.specs.Fields as Field
 use Rattle.rating.specs.Within.{within}
-use Rattle.rating.specs.Values.{R, Wd}
+use Rattle.rating.specs.Values.{R, Wd, soil_T4}
 use Rattle.rating.specs.Chosen.{Chosen, R*, Wd*}
 
 -- what stage 10 takes of a case beside T1 to T4 and the permitted rise
@@ -61,8 +61,8 @@ armourless x = no_armour x && eqb (Field.word x 20) 0
 
 unfoldable pub alternating : (n s w : ℕ) → List ℕ → Numbers
 alternating n s w x =
-    record { n = n; R = R x; S = s; W = w; dd = dielectric_rise n (Wd x) (Field.t1 x) (Field.t2 x) (Field.t3 x) (Field.t4 x) }
+    record { n = n; R = R x; S = s; W = w; dd = dielectric_rise n (Wd x) (Field.t1 x) (Field.t2 x) (Field.t3 x) (soil_T4 x) }
 
 unfoldable pub alternating* : (n : ℕ) (s w : Fraction) → List ℕ → Chosen → Numbers*
 alternating* n s w x c =
-    record { R = R* x c; S = s; W = w; dd = dielectric_rise* n (Wd* x c) (Field.t1 x) (Field.t2 x) (Field.t3 x) (Field.t4 x) }
+    record { R = R* x c; S = s; W = w; dd = dielectric_rise* n (Wd* x c) (Field.t1 x) (Field.t2 x) (Field.t3 x) (soil_T4 x) }

@@ -1,11 +1,9 @@
--- Demand 3's exact rise of a case, in fractions and with no rounding (docs/RATING.md, 'The exact rise'), and the permitted rise.
--- Assumes nothing.
+-- Demand 3's exact rise of a case, in fractions and with no rounding (docs/RATING.md, 'The exact rise'). Assumes nothing.
 use Rattle.std.specs.Prelude.{List, ℕ}
 use Rattle.exact.specs.Fraction.{Fraction}
-use Rattle.formulas.specs.Dielectric.{permitted_rise}
 use Rattle.formulas.specs.Rating.{unit_rise*, rise*}
 use Rattle.fields.specs.Fields as Field
-use Rattle.rating.specs.Values.{rise_of}
+use Rattle.rating.specs.Values.{soil_T4}
 use Rattle.rating.specs.Chosen.{Chosen}
 use Rattle.rating.specs.Arrangement.{Numbers*}
 use Rattle.rating.specs.Arrangements.{own}
@@ -18,12 +16,8 @@ module _ (x : List ℕ) (c : Chosen) where
 
   unfoldable pub E* : Fraction
   E* =
-      unit_rise* (numbers_of x).n numbers_of*.R numbers_of*.S numbers_of*.W (Field.t1 x) (Field.t2 x) (Field.t3 x) (Field.t4 x)
+      unit_rise* (numbers_of x).n numbers_of*.R numbers_of*.S numbers_of*.W (Field.t1 x) (Field.t2 x) (Field.t3 x) (soil_T4 x)
 
   -- the rise of the conductor above the ambient at a current in mA, in 10^-9 K
   unfoldable pub exact_rise : Fraction → Fraction
   exact_rise i = rise* i E* numbers_of*.dd
-
--- the permitted rise θc - θa, in 10^-9 K
-unfoldable pub permitted_of : List ℕ → ℕ
-permitted_of x = permitted_rise (rise_of x)

@@ -1,20 +1,21 @@
--- docs/RATING.md, 'The refusals': those that look at the fields alone, 1 to 7, each as a test that refuses, and the number of the first
--- that does. Assumes nothing.
-use Rattle.std.specs.Prelude.{Bool, cond, not, ◌&&◌, List, ℕ, ◌*◌, eqb, leb, pos, neg_ℤ, ◌-ℤ◌}
+-- docs/RATING.md, 'The refusals': those that look at the fields alone, 1 to 7 and 31, each as a test that refuses; their order; and the
+-- number of the first that does. Assumes nothing.
+use Rattle.std.specs.Prelude.{Bool, not, ◌&&◌, ◌||◌, List, [], ◌∷◌, ℕ, ◌*◌, eqb, leb, pos, neg_ℤ, ◌-ℤ◌}
 use Rattle.std.specs.Int.Signed.{le_z}
+use Rattle.bools.specs.First.{Refusal, or_refused}
 use Rattle.fields.specs.Fields as Field
 use Rattle.rating.specs.Within.{within, within_z}
 use Rattle.rating.specs.Arrangements.{own}
 
 -- 1
-unfoldable pub arrangement_refused : List ℕ → Bool
+abbrev pub arrangement_refused : List ℕ → Bool
 arrangement_refused x = not (own x).known
 
 -- 2
 unfoldable pub conductor_refused : List ℕ → Bool
 conductor_refused x = not (within 1 8 (Field.conductor x))
 
--- 3, in four groups: fields 2 to 9; 10 to 16; 22 to 25; and 26. The arrangement has the limits of fields 17 to 21.
+-- 3, in four groups: fields 2 to 9; 10 to 16; 22 to 25; and 26 to 28. The arrangement has the limits of fields 17 to 21.
 unfoldable pub conductor_limits : List ℕ → Bool
 conductor_limits x =
     within 1000 6500 (Field.frequency x)
@@ -43,20 +44,31 @@ thermal_limits x =
     && within 0 10000000 (Field.t3 x)
     && within 10000 20000000 (Field.t4 x)
 
+-- no soil dries out: ρ is 0
+unfoldable pub moist : List ℕ → Bool
+moist x = eqb (Field.dry_ratio x) 0
+
 unfoldable pub further_limits : List ℕ → Bool
-further_limits x = within 0 300000 (Field.loss_voltage x)
+further_limits x =
+    within 0 300000 (Field.loss_voltage x)
+    && (moist x || within 1000 5000 (Field.dry_ratio x))
+    && within_z (neg_ℤ (pos 4000)) (pos 25000) (Field.isotherm x)
 
 unfoldable pub limit_refused : List ℕ → Bool
 limit_refused x =
     not (conductor_limits x && sheath_limits x && thermal_limits x && further_limits x && (own x).limits x)
 
--- fields 27 to 29, which have no meaning, are zero
-unfoldable pub unassigned : List ℕ → Bool
-unassigned x = eqb (Field.word x 27) 0 && eqb (Field.word x 28) 0 && eqb (Field.word x 29) 0
+-- field 28 is zero where no soil dries out
+unfoldable pub isotherm_unused : List ℕ → Bool
+isotherm_unused x = not (moist x) || eqb (Field.word x 28) 0
 
--- 4: one of fields 27 to 29 is not zero, or one that the arrangement does not have
+-- field 29, which has no meaning, is zero
+unfoldable pub unassigned : List ℕ → Bool
+unassigned x = eqb (Field.word x 29) 0
+
+-- 4: field 28 or 29 is not zero where it must be, or one that the arrangement does not have
 unfoldable pub stray_refused : List ℕ → Bool
-stray_refused x = not (unassigned x && (own x).unused x)
+stray_refused x = not (isotherm_unused x && unassigned x && (own x).unused x)
 
 -- 5: not dc ≤ ds, or 105 ds > 100 Di, or not Di ≤ d; the arrangement adds how its cores or cables lie
 unfoldable pub geometry_refused : List ℕ → Bool
@@ -75,17 +87,30 @@ heat_refused x =
     && le_z (Field.sheath_temperature x) (Field.conductor_temperature x)
     && (own x).heat x)
 
+-- 31: soil dries out, and not θa ≤ θx ≤ θc
+unfoldable pub isotherm_refused : List ℕ → Bool
+isotherm_refused x =
+    not
+    (moist x
+    || within_z (Field.ambient_temperature x) (Field.conductor_temperature x) (Field.isotherm x))
+
 -- 7: sheath or armour is not of the metal that the arrangement asks for
 unfoldable pub metal_refused : List ℕ → Bool
 metal_refused x = not ((own x).metal x)
 
--- the number of the first refusal among 1 to 7 that is given, or 0
-unfoldable pub field_refusal : List ℕ → ℕ
-field_refusal x =
-    cond (arrangement_refused x) 1
-    (cond (conductor_refused x) 2
-    (cond (limit_refused x) 3
-    (cond (stray_refused x) 4
-    (cond (geometry_refused x) 5
-    (cond (heat_refused x) 6
-    (cond (metal_refused x) 7 0))))))
+-- in the order in which they are tried
+unfoldable pub field_refusals : List ℕ → List Refusal
+field_refusals x =
+    record { number = 1; given = arrangement_refused x }
+    ∷ record { number = 2; given = conductor_refused x }
+    ∷ record { number = 3; given = limit_refused x }
+    ∷ record { number = 4; given = stray_refused x }
+    ∷ record { number = 5; given = geometry_refused x }
+    ∷ record { number = 6; given = heat_refused x }
+    ∷ record { number = 31; given = isotherm_refused x }
+    ∷ record { number = 7; given = metal_refused x }
+    ∷ []
+
+-- the number of the first that is given, or 0
+abbrev pub field_refusal : List ℕ → ℕ
+field_refusal x = or_refused (λ n. n) (field_refusals x) 0

@@ -12,6 +12,7 @@ pub mod Arrangements
 pub mod Allowed
 pub mod FieldRefusals
 pub mod Stage10
+pub mod StageRefusals
 pub mod Refusals
 pub mod Refusal
 pub mod Kind

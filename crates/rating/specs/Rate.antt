@@ -1,13 +1,13 @@
--- What `rate` answers to a case: the number of the first refusal that applies, in rising order, with rating 0 and a sheet of zeros;
--- or 0, the rating of stage 10 and the sheet. Assumes nothing.
-use Rattle.std.specs.Prelude.{◌≡◌, refl, cond, ◌&&◌, List, [], ◌∷◌, ℕ, eqb, replicate, Result, Ok, Err}
+-- What `rate` answers to a case: the number of the first refusal that applies, in the order of docs/RATING.md, with rating 0 and a sheet
+-- of zeros; or 0, the rating of stage 10 and the sheet. Assumes nothing.
+use Rattle.std.specs.Prelude.{◌≡◌, refl, cond, List, [], ◌∷◌, ℕ, eqb, replicate, Result, Ok, Err}
 use Rattle.rating.specs.declared.rate.Rated.{Rated}
 use Rattle.rating.specs.declared.refusal.Refusal.{Refusal}
 use Rattle.rating.specs.Refusal.{number_of}
-use Rattle.formulas.specs.Refusals.{skin_refused, eddy_refused, dielectric_refused, current_refused}
-use Rattle.rating.specs.Values.{R', Rs, B, zs, zp, ys, yp, Wd, rise_of}
+use Rattle.rating.specs.Values.{R', Rs, B, ys, yp, Wd}
 use Rattle.rating.specs.Arrangements.{own}
 use Rattle.rating.specs.FieldRefusals.{field_refusal}
+use Rattle.rating.specs.StageRefusals.{skin_refused, eddy_refused, dielectric_refused, current_refused}
 use Rattle.rating.specs.Stage10.{numbers_of, E, current_of}
 
 -- an answer: 0 for a rated case or else the refusal's number, the rating in mA, and the sheet
@@ -37,16 +37,16 @@ rated x = record { number = 0; rating = current_of x; sheet = sheet_of x }
 -- refusals 10 and 11, or the rating
 unfoldable pub loaded : List ℕ → Answer
 loaded x =
-    cond (dielectric_refused (numbers_of x).dd (rise_of x)) (refused 10)
-    (cond (current_refused (current_of x)) (refused 11) (rated x))
+    cond (dielectric_refused x) (refused 10)
+    (cond (current_refused x) (refused 11) (rated x))
 
 -- refusals 8 and 9 before them
 unfoldable pub judged : List ℕ → Answer
 judged x =
-    cond (skin_refused (zs x) (zp x)) (refused 8)
-    (cond ((own x).eddies && eddy_refused (B x) (Rs x)) (refused 9) (loaded x))
+    cond (skin_refused x) (refused 8)
+    (cond (eddy_refused x) (refused 9) (loaded x))
 
--- refusals 1 to 7 before them. It is shut: another crate names it and cites its theorems, and sees no stage.
+-- refusals 1 to 7 and 31 before them. It is shut: another crate names it and cites its theorems, and sees no stage.
 pub rate_of : List ℕ → Answer
 rate_of x = cond (eqb (field_refusal x) 0) (judged x) (refused (field_refusal x))
 

@@ -8,6 +8,7 @@ use Rattle.rating.specs.declared.refusal.Refusal.TheVariants.{
   Stray,
   Geometry,
   Heat,
+  Isotherm,
   Metal,
   Skin,
   Eddy,
@@ -22,6 +23,7 @@ number_of Limit = 3
 number_of Stray = 4
 number_of Geometry = 5
 number_of Heat = 6
+number_of Isotherm = 31
 number_of Metal = 7
 number_of Skin = 8
 number_of Eddy = 9

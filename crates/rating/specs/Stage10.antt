@@ -4,7 +4,7 @@ use Rattle.std.specs.Prelude.{List, ℕ}
 use Rattle.formulas.specs.Dielectric.{current_rise}
 use Rattle.formulas.specs.Rating.{unit_rise, rating}
 use Rattle.fields.specs.Fields as Field
-use Rattle.rating.specs.Values.{rise_of}
+use Rattle.rating.specs.Values.{soil_T4, permitted_of}
 use Rattle.rating.specs.Arrangement.{Numbers}
 use Rattle.rating.specs.Arrangements.{own}
 
@@ -13,12 +13,12 @@ abbrev pub numbers_of : List ℕ → Numbers
 numbers_of x = (own x).numbers x
 
 unfoldable pub N : List ℕ → ℕ
-N x = current_rise (rise_of x) (numbers_of x).dd
+N x = current_rise (permitted_of x) (numbers_of x).dd
 
 unfoldable pub E : List ℕ → ℕ
 E x =
     let ν = numbers_of x in
-    unit_rise ν.n ν.R ν.S ν.W (Field.t1 x) (Field.t2 x) (Field.t3 x) (Field.t4 x)
+    unit_rise ν.n ν.R ν.S ν.W (Field.t1 x) (Field.t2 x) (Field.t3 x) (soil_T4 x)
 
 -- the current that stage 10 gives
 unfoldable pub current_of : List ℕ → ℕ

@@ -8,6 +8,7 @@ use Rattle.formulas.specs.Skin.{skin_ratio, skin_factor}
 use Rattle.formulas.specs.Proximity.{spacing_ratio, proximity_factor, ac_resistance}
 use Rattle.formulas.specs.Logarithm.{log_low}
 use Rattle.formulas.specs.Spacing.{spacing_log_high, spacing_log_low, sheath_reactance, sheath_reactance_low}
+use Rattle.formulas.specs.Soil.{soil_resistance, permitted_rise}
 use Rattle.formulas.specs.Dielectric.{dielectric_loss}
 use Rattle.fields.specs.Fields as Field
 
@@ -67,3 +68,15 @@ Wd x =
 -- θc - θa, which refusal 6 keeps at 500 or above
 unfoldable pub rise_of : List ℕ → ℕ
 rise_of x = nat_abs (Field.conductor_temperature x -ℤ Field.ambient_temperature x)
+
+-- θx - θa, which refusal 31 keeps at 0 or above where soil dries out
+unfoldable pub isotherm_rise_of : List ℕ → ℕ
+isotherm_rise_of x = nat_abs (Field.isotherm x -ℤ Field.ambient_temperature x)
+
+-- what dry soil makes of T4, in 10^-9 K·m/W, and of the permitted rise, the paper's P, in 10^-9 K
+
+unfoldable pub soil_T4 : List ℕ → ℕ
+soil_T4 x = soil_resistance (Field.dry_ratio x) (Field.t4 x)
+
+unfoldable pub permitted_of : List ℕ → ℕ
+permitted_of x = permitted_rise (Field.dry_ratio x) (rise_of x) (isotherm_rise_of x)

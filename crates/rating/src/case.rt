@@ -1,4 +1,4 @@
-// A case that refusals 1 to 7 let pass, and what the stages take of it: its resistances, its rise, B, its z and T1 to T4.
+// A case that refusals 1 to 7 and 31 let pass, and what the stages take of it: its resistances, its rise, B and its z.
 ghost use Rattle.std.specs.Prelude.{◌≡◌, ◌≤◌, ◌-ℤ◌, nat_abs};
 ghost use Rattle.std.specs.Int.{w32};
 ghost use Rattle.std.proofs.Common.{to_z};
@@ -12,18 +12,17 @@ ghost use Rattle.rating.specs.FieldRefusals.{field_refusal};
 ghost use Rattle.rating.specs.Kind.{arrangement_as};
 ghost use Rattle.rating.specs.Laws.Rise.{RiseRange};
 ghost use Rattle.rating.specs.Laws.Sound.{Sound};
-ghost use Rattle.rating.specs.Laws.Steps.{IsThermal, MetalLimits};
+ghost use Rattle.rating.specs.Laws.Steps.{MetalLimits};
 ghost use Rattle.rating.specs.Values.{R', Rs, B, rise_of};
 
 use super::arrangement::Kind;
 use fields::{
     AMBIENT_TEMPERATURE, CONDUCTOR, CONDUCTOR_RESISTANCE, CONDUCTOR_TEMPERATURE, Case, FREQUENCY,
-    SHEATH_METAL, SHEATH_RESISTANCE, SHEATH_TEMPERATURE, T1, T2, T3, T4,
+    SHEATH_METAL, SHEATH_RESISTANCE, SHEATH_TEMPERATURE,
 };
 use stages::reactance::reactance;
 use stages::resistance::{resistance, signed};
 use stages::skin::skin_ratio;
-use stages::thermal::Thermal;
 use tables::{coefficient, conductor_metal};
 use wide::rounding::Up;
 
@@ -98,16 +97,5 @@ impl SoundCase {
     {
         // as: it is not below zero
         difference(self.x[CONDUCTOR_TEMPERATURE], self.x[AMBIENT_TEMPERATURE]) as u64
-    }
-
-    pub(crate) fn thermal(&self) -> Thermal
-        ensures { IsThermal self.now.x result }
-    {
-        Thermal {
-            t1: u64::from(self.x[T1]),
-            t2: u64::from(self.x[T2]),
-            t3: u64::from(self.x[T3]),
-            t4: u64::from(self.x[T4]),
-        }
     }
 }

@@ -3,7 +3,8 @@ ghost use Rattle.std.specs.Prelude.{◌≡◌, ◌≤◌};
 ghost use Rattle.formulas.specs.Dielectric.{dielectric_rise};
 ghost use Rattle.formulas.specs.Laws.Bounds.{most_cores};
 ghost use Rattle.fields.specs.Fields as Field;
-ghost use Rattle.rating.specs.Values.{B, Wd, loss_counts};
+ghost use Rattle.rating.specs.Laws.Steps.{IsThermal};
+ghost use Rattle.rating.specs.Values.{B, soil_T4, Wd, loss_counts};
 
 use super::case::SoundCase;
 use super::judge::FitCase;
@@ -12,6 +13,7 @@ use fields::{
 };
 use stages::dielectric::{dielectric_loss, dielectric_rise};
 use stages::logarithm::log;
+use stages::thermal::Thermal;
 use wide::rounding::Down;
 
 impl SoundCase {
@@ -44,11 +46,12 @@ impl SoundCase {
 }
 
 impl FitCase {
-    pub(crate) fn dielectric_rise(&self, n: u64) -> u64
-        requires { n ≤ most_cores }
+    pub(crate) fn dielectric_rise(&self, n: u64, t: Thermal) -> u64
+        requires n_most { n ≤ most_cores }
+        requires t_is { IsThermal self.now.case.x t }
         ensures { let x = self.now.case.x in
-            result ≡ dielectric_rise n (Wd x) (Field.t1 x) (Field.t2 x) (Field.t3 x) (Field.t4 x) }
+            result ≡ dielectric_rise n (Wd x) (Field.t1 x) (Field.t2 x) (Field.t3 x) (soil_T4 x) }
     {
-        dielectric_rise(n, self.wd, self.case.thermal())
+        dielectric_rise(n, self.wd, t)
     }
 }

@@ -1,4 +1,4 @@
-// Refusals 2 to 7, which look at the fields alone: a test for each, and the first that is given.
+// Refusals 2 to 7 and 31, which look at the fields alone: a test for each, and the first that is given.
 ghost use Rattle.std.specs.Prelude.{◌≡◌, pos, ◌-ℤ◌};
 ghost use Rattle.std.specs.Int.Signed.{le_z};
 ghost use Rattle.std.specs.Int.{w32};
@@ -13,8 +13,8 @@ use super::case::difference;
 use super::refusal::Refusal;
 use fields::{
     AMBIENT_TEMPERATURE, CONDUCTOR, CONDUCTOR_DIAMETER, CONDUCTOR_RESISTANCE,
-    CONDUCTOR_TEMPERATURE, Case, FREQUENCY, INSULATION_DIAMETER, LOSS_FACTOR, LOSS_VOLTAGE,
-    PERMITTIVITY, SCREEN_DIAMETER, SHEATH_DIAMETER, SHEATH_METAL, SHEATH_RESISTANCE,
+    CONDUCTOR_TEMPERATURE, Case, DRY_RATIO, FREQUENCY, INSULATION_DIAMETER, ISOTHERM, LOSS_FACTOR,
+    LOSS_VOLTAGE, PERMITTIVITY, SCREEN_DIAMETER, SHEATH_DIAMETER, SHEATH_METAL, SHEATH_RESISTANCE,
     SHEATH_TEMPERATURE, SPACING, T1, T2, T3, T4, VOLTAGE,
 };
 use stages::resistance::signed;
@@ -92,11 +92,21 @@ fn thermal_limits(x: Case) -> bool
         & within(10000, 20000000, x[T4])
 }
 
+// No soil dries out: ρ is 0.
+#[tactic(auto, unfolding(crate::specs::FieldRefusals::moist))]
+fn moist(x: Case) -> bool
+    ensures { result ≡ FieldRefusals.moist x }
+{
+    x[DRY_RATIO] == 0
+}
+
 #[tactic(auto, unfolding(crate::specs::FieldRefusals::further_limits))]
 fn further_limits(x: Case) -> bool
     ensures { result ≡ FieldRefusals.further_limits x }
 {
     within(0, 300000, x[LOSS_VOLTAGE])
+        & (moist(x) | within(1000, 5000, x[DRY_RATIO]))
+        & within_signed(-4000, 25000, x[ISOTHERM])
 }
 
 // `its` is what the arrangement answered, a value and no switch.
@@ -108,12 +118,20 @@ fn limit_refused(x: Case, its: bool) -> bool
     !(conductor_limits(x) & sheath_limits(x) & thermal_limits(x) & further_limits(x) & its)
 }
 
-// Fields 27 to 29, which have no meaning, are zero.
+// Field 28 is zero where no soil dries out.
+#[tactic(auto, unfolding(crate::specs::FieldRefusals::isotherm_unused))]
+fn isotherm_unused(x: Case) -> bool
+    ensures { result ≡ FieldRefusals.isotherm_unused x }
+{
+    !moist(x) | (x[ISOTHERM] == 0)
+}
+
+// Field 29, which has no meaning, is zero.
 #[tactic(auto, unfolding(crate::specs::FieldRefusals::unassigned))]
 fn unassigned(x: Case) -> bool
     ensures { result ≡ FieldRefusals.unassigned x }
 {
-    (x[27] == 0) & (x[28] == 0) & (x[29] == 0)
+    x[29] == 0
 }
 
 #[tactic(auto, unfolding(crate::specs::FieldRefusals::stray_refused))]
@@ -121,7 +139,7 @@ fn stray_refused(x: Case, its: bool) -> bool
     requires { its ≡ (own x).unused x }
     ensures { result ≡ FieldRefusals.stray_refused x }
 {
-    !(unassigned(x) & its)
+    !(isotherm_unused(x) & unassigned(x) & its)
 }
 
 #[tactic(auto, unfolding(crate::specs::FieldRefusals::geometry_refused))]
@@ -145,8 +163,17 @@ fn heat_refused(x: Case, its: bool) -> bool
         & its)
 }
 
-// The first that is given, in rising order.
-#[tactic(auto, unfolding(crate::specs::FieldRefusals::field_refusal, crate::specs::FieldRefusals::arrangement_refused))]
+#[tactic(auto, unfolding(crate::specs::FieldRefusals::isotherm_refused))]
+fn isotherm_refused(x: Case) -> bool
+    ensures { result ≡ FieldRefusals.isotherm_refused x }
+{
+    let ambient = signed(x[AMBIENT_TEMPERATURE]);
+    let conductor = signed(x[CONDUCTOR_TEMPERATURE]);
+    !(moist(x) | within_signed(ambient, conductor, x[ISOTHERM]))
+}
+
+// The first that is given, in the order in which they are tried.
+#[tactic(auto, unfolding(bools::specs::First::or_refused, crate::specs::FieldRefusals::field_refusals))]
 pub(crate) fn check_fields(x: Case, rules: Rules) -> Result<(), Refusal>
     requires { Asks (own x) x rules }
     ensures { ChecksFields x result }
@@ -165,6 +192,9 @@ pub(crate) fn check_fields(x: Case, rules: Rules) -> Result<(), Refusal>
     }
     if heat_refused(x, rules.heat) {
         return Err(Refusal::Heat);
+    }
+    if isotherm_refused(x) {
+        return Err(Refusal::Isotherm);
     }
     if !rules.metal {
         return Err(Refusal::Metal);

@@ -1,4 +1,5 @@
-// Refusals 8 and 9 on a case that 1 to 7 let pass; and a case that 1 to 9 let pass, with the values that every arrangement shares.
+// Refusals 8 and 9 on a case that those of the fields let pass; and a case that 8 and 9 let pass too, with the values that every
+// arrangement shares.
 ghost use Rattle.std.specs.Prelude.{◌≡◌, IfOk, IfErr};
 ghost use Rattle.rating.specs.Arrangements.{own};
 ghost use Rattle.rating.specs.Laws.Fit.{Fit};

@@ -17,3 +17,4 @@ pub mod rate;
 pub mod refusal;
 mod sheath_reactance;
 mod sl_type;
+mod soil;

@@ -1,7 +1,7 @@
-// Stage 10 on a case that refusals 1 to 9 let pass: refusals 10 and 11, or the rating and the sheet.
+// Stage 10 on a case that refusals 1 to 9 and 31 let pass: refusals 10 and 11, or the rating and the sheet.
 ghost use Rattle.std.specs.Prelude.{◌≡◌};
 ghost use Rattle.rating.specs.Arrangements.{own};
-ghost use Rattle.rating.specs.Laws.Steps.{Loses, Warms};
+ghost use Rattle.rating.specs.Laws.Steps.{IsThermal, Loses, Warms};
 ghost use Rattle.rating.specs.Rate.{answer_of, rate_of};
 ghost use Rattle.rating.specs.Stage10.{E, current_of};
 
@@ -10,17 +10,19 @@ use super::judge::FitCase;
 use super::rate::Rated;
 use super::refusal::Refusal;
 use stages::rating::{rating, unit_rise};
+use stages::thermal::Thermal;
 
 // The largest rating that refusal 11 lets pass, in mA.
 const MOST_CURRENT: u64 = 5_000_000;
 
 impl FitCase {
     #[tactic(auto, unfolding(crate::specs::Stage10::E, crate::specs::Arrangement::alternating))]
-    fn unit_rise(&self, l: Losses) -> u64
-        requires { Loses (own self.now.case.x) self.now.case.x l }
+    fn unit_rise(&self, l: Losses, t: Thermal) -> u64
+        requires l_is { Loses (own self.now.case.x) self.now.case.x l }
+        requires t_is { IsThermal self.now.case.x t }
         ensures { result ≡ E self.now.case.x }
     {
-        unit_rise(l.n, self.r, l.s, l.w, self.case.thermal())
+        unit_rise(l.n, self.r, l.s, l.w, t)
     }
 
     // Stage 10, where refusal 10 was not given.
@@ -28,19 +30,20 @@ impl FitCase {
         requires { Warms self.now.case.x permitted dd e }
         ensures { result ≡ current_of self.now.case.x }
     {
-        rating(10000000 * permitted - dd, e)
+        rating(permitted - dd, e)
     }
 
     pub(crate) fn loaded(&self) -> Result<Rated, Refusal>
         ensures { answer_of result ≡ rate_of self.now.case.x }
     {
         let l = self.case.kind.losses(self);
-        let dd = self.dielectric_rise(l.n);
-        let permitted = self.case.rise();
-        if 90000000 * permitted < 10 * dd {
+        let t = self.case.thermal();
+        let dd = self.dielectric_rise(l.n, t);
+        let permitted = self.case.permitted();
+        if 9 * permitted < 10 * dd {
             return Err(Refusal::Dielectric);
         }
-        let e = self.unit_rise(l);
+        let e = self.unit_rise(l, t);
         let i = self.current(permitted, dd, e);
         if MOST_CURRENT < i {
             return Err(Refusal::Current);

@@ -63,8 +63,12 @@ pub mod field {
     pub const T3: usize = 24;
     /// cable surface to ambient
     pub const T4: usize = 25;
-    /// the U0 from which the dielectric loss counts; fields 27 to 29 are 0
+    /// the U0 from which the dielectric loss counts
     pub const LOSS_VOLTAGE: usize = 26;
+    /// rho, dry over moist soil's resistivity in thousandths; 0: no soil dries out
+    pub const DRY_RATIO: usize = 27;
+    /// theta_x, the critical isotherm's temperature; 0 where rho is 0; field 29 is 0
+    pub const ISOTHERM: usize = 28;
 }
 
 /// The fields of a record behind those of its case.
@@ -121,7 +125,8 @@ pub mod sheet {
     pub const E: usize = 12;
 }
 
-/// The refusals: of a case (docs/RATING.md), and from 20 on of a book (docs/BOOK.md).
+/// The refusals: of a case (docs/RATING.md), in the order in which they are tried, and then of a book
+/// (docs/BOOK.md).
 pub mod refusal {
     pub const ARRANGEMENT: u32 = 1;
     pub const CONDUCTOR: u32 = 2;
@@ -129,6 +134,7 @@ pub mod refusal {
     pub const STRAY: u32 = 4;
     pub const GEOMETRY: u32 = 5;
     pub const HEAT: u32 = 6;
+    pub const ISOTHERM: u32 = 31;
     pub const METAL: u32 = 7;
     pub const SKIN: u32 = 8;
     pub const EDDY: u32 = 9;
@@ -152,6 +158,7 @@ pub fn word(refusal: u32) -> &'static str {
         refusal::STRAY => "stray",
         refusal::GEOMETRY => "geometry",
         refusal::HEAT => "heat",
+        refusal::ISOTHERM => "isotherm",
         refusal::METAL => "metal",
         refusal::SKIN => "skin",
         refusal::EDDY => "eddy",

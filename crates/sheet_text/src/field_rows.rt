@@ -19,7 +19,7 @@ enum Form {
 }
 
 // A row of the sheet, and the arrangements that have it: only the SL type has armour, c is the
-// distance of a core's axis from that of a cable with three cores, and none has fields 27 to 29.
+// distance of a core's axis from that of a cable with three cores, and none has field 29.
 struct Field {
     label: Label,
     form: Form,
@@ -74,8 +74,8 @@ const FIELDS: [Field; WIDTH] = [
     field!("  T3", "K.m/W", "outer covering [0 to 10]", 6; Form::Plain, &ALL),
     field!("  T4", "K.m/W", "surface to ambient [0.01 to 20]", 6; Form::Plain, &ALL),
     field!("  Ud", "V", "dielectric loss counts from [0 to 300000]", 0; Form::Plain, &ALL),
-    field!("  field 27", "", "must be 0", 0; Form::Plain, &[]),
-    field!("  field 28", "", "must be 0", 0; Form::Plain, &[]),
+    field!("  rho", "", "dry to moist soil resistivity [1 to 5, 0 for none]", 3; Form::Plain, &ALL),
+    field!("  theta_x", "deg C", "critical isotherm, if rho is not 0 [-40 to 250]", 2; Form::Signed, &ALL),
     field!("  field 29", "", "must be 0", 0; Form::Plain, &[]),
 ];
 

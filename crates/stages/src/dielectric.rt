@@ -18,5 +18,9 @@ pub fn dielectric_rise(n: u64, wd: u64, t: Thermal) -> u64
     requires { DielectricRiseRanges n wd t.t1 t.t2 t.t3 t.t4 }
     ensures { result ≡ dielectric_rise n wd t.t1 t.t2 t.t3 t.t4 }
 {
-    mul_div::<Up>(wd, t.t1 + 2 * n * (t.t2 + t.t3 + t.t4), 2000000000)
+    mul_div::<Up>(
+        wd,
+        1000 * t.t1 + 2 * n * (1000 * (t.t2 + t.t3) + t.t4),
+        2000000000000,
+    )
 }

@@ -1,14 +1,15 @@
-// margins: draws rated cases, of any arrangement or of one, and measures by
-// exact fractions how far each is from the two bounds on its rating. A case that
-// breaks a bound is printed as its numbers. The same seed gives the same cases.
+// margins: draws rated cases, of any arrangement or of one, in any soil or only in
+// soil that dries out, and measures by exact fractions how far each is from the two
+// bounds on its rating. A case that breaks a bound is printed as its numbers. The
+// same seed gives the same cases.
 
 use std::cmp::Ordering;
 use std::process::ExitCode;
 use twin::dice::Dice;
-use twin::drawn_cases::{rated_case, rated_case_of};
+use twin::drawn_cases::{rated_case, rated_case_of, rated_dry_case};
 use twin::lines::case_line;
 use twin::margins::{margins, Margins};
-use twin::rating::{limits, loss_counts, Rated, Words};
+use twin::rating::{dry_soil, limits, loss_counts, Rated, Words};
 use twin::stages::LARGEST_RS_OF_SUM;
 
 /// How many lines of progress a run writes on standard error.
@@ -25,10 +26,15 @@ struct Asked {
     seed: u32,
     count: u64,
     arrangement: Option<i64>,
+    only_dry: bool,
 }
 
 impl Asked {
     fn read(words: &[String]) -> Option<Asked> {
+        let (words, only_dry) = match words {
+            [words @ .., last] if last == "dry" => (words, true),
+            _ => (words, false),
+        };
         let (seed, count, arrangement) = match words {
             [seed, count] => (seed, count, None),
             [seed, count, arrangement] => (seed, count, Some(arrangement.parse().ok()?)),
@@ -37,11 +43,12 @@ impl Asked {
         let (first, last) = limits(0);
         let known = arrangement.is_none_or(|number| (first..=last).contains(&number));
         let (seed, count) = (seed.parse().ok()?, count.parse().ok()?);
-        known.then_some(Asked { seed, count, arrangement })
+        known.then_some(Asked { seed, count, arrangement, only_dry })
     }
 
     fn draw(&self, dice: &mut Dice) -> (Words, Rated) {
         match self.arrangement {
+            _ if self.only_dry => rated_dry_case(self.arrangement, dice),
             Some(arrangement) => rated_case_of(arrangement, dice),
             None => rated_case(dice),
         }
@@ -56,6 +63,40 @@ fn report(count: u64, without_loss: u64, broken: u64, all: &Margins) {
     println!("largest relative error of E: {:e}", all.e_error);
     println!("largest relative error of a dd of at least 1 K: {:e}", all.dd_error);
     println!("largest error of any dd: {:e} of the rise it leaves", all.dd_error_of_rise_left);
+}
+
+/// Of cases in soil that dries out, how many there are at each end of what v and the
+/// isotherm may be, and between.
+#[derive(Default)]
+struct Soils {
+    ratios: [u64; 3],
+    isotherms: [u64; 3],
+}
+
+/// 0 at the lower of two ends, 2 at the upper and 1 between.
+fn third(word: u32, low: u32, high: u32) -> usize {
+    match word {
+        _ if word == low => 0,
+        _ if word == high => 2,
+        _ => 1,
+    }
+}
+
+impl Soils {
+    fn count(&mut self, case: &Words) {
+        if dry_soil(case) {
+            let (low, high) = limits(27);
+            self.ratios[third(case[27], low as u32, high as u32)] += 1;
+            self.isotherms[third(case[28], case[4], case[3])] += 1;
+        }
+    }
+
+    fn report(&self) {
+        let ([least, between, most], [ambient, inside, conductor]) = (self.ratios, self.isotherms);
+        println!("the soil of {} dries out:", least + between + most);
+        println!("  v is 1000 in {least}, 5000 in {most}, between in {between}");
+        println!("  θx is θa in {ambient}, θc in {conductor}, between in {inside}");
+    }
 }
 
 /// How many common sheaths took either formula, below and at the last Rs of the
@@ -78,10 +119,12 @@ fn measure(asked: &Asked) -> u64 {
     let mut all = Margins::none();
     let (mut without_loss, mut broken) = (0, 0);
     let mut resistances = Vec::new();
+    let mut soils = Soils::default();
     for done in 1..=asked.count {
         let (case, rated) = asked.draw(&mut dice);
         resistances.push(rated.sheet[RS]);
         without_loss += u64::from(!loss_counts(&case));
+        soils.count(&case);
         match margins(&case, &rated) {
             Some(margins) => all = all.join(&margins),
             None => {
@@ -94,6 +137,7 @@ fn measure(asked: &Asked) -> u64 {
         }
     }
     report(asked.count, without_loss, broken, &all);
+    soils.report();
     if asked.arrangement == Some(OF_TWO_FORMULAS) {
         report_formulas(&resistances);
     }
@@ -103,7 +147,7 @@ fn measure(asked: &Asked) -> u64 {
 fn main() -> ExitCode {
     let words: Vec<String> = std::env::args().skip(1).collect();
     let Some(asked) = Asked::read(&words) else {
-        eprintln!("usage: margins SEED COUNT [ARRANGEMENT]");
+        eprintln!("usage: margins SEED COUNT [ARRANGEMENT] [dry]");
         return ExitCode::FAILURE;
     };
     if measure(&asked) == 0 {

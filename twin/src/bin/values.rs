@@ -6,7 +6,7 @@ use std::fmt::Display;
 use twin::cable::Cable;
 use twin::rating::Words;
 use twin::sample_cables::{COMMON_ALUMINIUM_SHEATH, COMMON_SHEATH};
-use twin::stages::{self, Insulation, Thermal, LARGEST_RS_OF_SUM};
+use twin::stages::{self, Insulation, Thermal, LARGEST_RS_OF_SUM, MOIST};
 use twin::tables;
 
 const CONDUCTOR_CODE: u32 = 1;
@@ -16,7 +16,8 @@ const SHEATH_DIAMETER: u128 = 4000;
 const SINGLE_CORE_SPACING: u128 = 12000;
 const RISE: u128 = 8500 - 1500;
 
-const THERMAL: Thermal = Thermal { t1: 350_000, t2: 40_000, t3: 60_000, t4: 450_000, cores: 3 };
+const THERMAL: Thermal =
+    Thermal { t1: 350_000, t2: 40_000, t3: 60_000, t4: 450_000, soil_ratio: MOIST, cores: 3 };
 
 fn show(name: impl Display, value: impl Display) {
     println!("{name} {value}");
@@ -93,7 +94,7 @@ fn show_dielectric() -> u128 {
         Insulation { permittivity: 350, volts: 19000, loss_factor: 1000, log_low: low };
     let wd = stages::dielectric_loss(&insulation, stages::reactance_unit_high(FREQUENCY));
     let dd = stages::dielectric_rise(wd, &THERMAL);
-    let left = stages::rise_left(RISE, dd);
+    let left = stages::rise_left(stages::permitted_rise(RISE, MOIST, 0), dd);
     show("log_insulation_low", low);
     show("log_insulation_high", stages::log_high(3600, 1750));
     show("Wd", wd);

@@ -5,8 +5,8 @@
 use std::fmt::Display;
 use twin::cable::Cable;
 use twin::rating::{rate, value, Rated, Words, WIDTH};
-use twin::sample_cables::{COMMON_ALUMINIUM_SHEATH, COMMON_SHEATH};
-use twin::stages::{self, Insulation, Thermal, LN_2_HIGH, LN_2_LOW, T};
+use twin::sample_cables::{COMMON_ALUMINIUM_SHEATH, COMMON_SHEATH, DRY_SOIL};
+use twin::stages::{self, Insulation, Thermal, LN_2_HIGH, LN_2_LOW, MOIST, T};
 use twin::tables;
 use twin::whole::{down, up};
 
@@ -44,8 +44,8 @@ const FIELD_NAMES: [&str; WIDTH] = [
     "T3",
     "T4",
     "Ud",
-    "field-27",
-    "field-28",
+    "ρ",
+    "θx",
     "field-29",
 ];
 
@@ -54,8 +54,13 @@ const THERMAL: Thermal = Thermal {
     t2: CASE[23] as u128,
     t3: CASE[24] as u128,
     t4: CASE[25] as u128,
+    soil_ratio: MOIST,
     cores: 3,
 };
+
+// The same cable in soil that dries out, for which stages 1 to 8 have the same numbers.
+const DRY_CASE: Words = DRY_SOIL;
+const DRY_THERMAL: Thermal = Thermal { soil_ratio: DRY_CASE[27] as u128, ..THERMAL };
 
 // The second table's single-core cables, those of `values`.
 const SINGLE_FREQUENCY: u128 = 5000;
@@ -242,51 +247,93 @@ fn show_screened(before: u128, x_low: u128, rs: u128) -> u128 {
 
 // Stages 9 and 10.
 
-/// Wd, dd and N.
-fn show_dielectric(b: u128, l: u128) -> [u128; 3] {
+/// Wd.
+fn show_dielectric_loss(b: u128, l: u128) -> u128 {
     let insulation = Insulation {
         permittivity: field(11),
         volts: field(10),
         loss_factor: field(12),
         log_low: shown("l", l),
     };
-    let wd = shown("Wd", stages::dielectric_loss(&insulation, b));
-    let outer = THERMAL.t2 + THERMAL.t3 + THERMAL.t4;
-    let path = shown("T1+2n(T2+T3+T4)", THERMAL.t1 + 2 * THERMAL.cores * outer);
-    let dd = shown("dd", stages::dielectric_rise(wd, &THERMAL));
-    assert_eq!(dd, up(wd * path, 2_000_000_000));
-    let rise = u128::from(CASE[3] - CASE[4]);
-    show("10^7(θc-θa)", stages::permitted_rise(rise));
-    let n_left = shown("N", stages::rise_left(rise, dd));
-    show("10dd", 10 * dd);
-    show("9×10^7(θc-θa)", 9 * stages::permitted_rise(rise));
-    [wd, dd, n_left]
+    shown("Wd", stages::dielectric_loss(&insulation, b))
 }
 
-fn show_effective_resistance(r: u128, s: u128, w: u128) -> u128 {
-    let Thermal { t1, t2, t3, t4, cores } = THERMAL;
-    let parts = [r * t1, cores * (r + s) * t2, cores * (r + s + w) * (t3 + t4)]
-        .map(|part| up(part, 1_000_000));
-    show("E1", parts[0]);
-    show("E2", parts[1]);
-    show("E3", parts[2]);
-    let e = shown("E", stages::effective_resistance(r, s, w, &THERMAL));
-    assert_eq!(e, parts.iter().sum());
-    e
+/// A cable in its soil, with what its numbers' names end in.
+struct Laid {
+    case: Words,
+    thermal: Thermal,
+    end: &'static str,
 }
 
-/// I, and the three numbers that show it to be the largest.
-fn show_current(n_left: u128, e: u128) -> u128 {
-    let most = 10 * T * n_left;
-    let current = stages::largest_current(n_left, e);
-    let (at, next) = (current * current * e, (current + 1) * (current + 1) * e);
-    assert!(at <= most && most < next);
-    show("down(10^13N/E)", down(most, e));
-    show("I", current);
-    show("I²E", at);
-    show("10^13N", most);
-    show("(I+1)²E", next);
-    current
+const MOIST_SOIL: Laid = Laid { case: CASE, thermal: THERMAL, end: "" };
+const DRIED_SOIL: Laid = Laid { case: DRY_CASE, thermal: DRY_THERMAL, end: ".dry" };
+
+impl Laid {
+    /// Shows a number and hands it on.
+    fn shown(&self, name: &str, number: u128) -> u128 {
+        shown(format_args!("{name}{}", self.end), number)
+    }
+
+    /// dd.
+    fn show_dielectric_rise(&self, wd: u128) -> u128 {
+        let Thermal { t1, t2, t3, cores, .. } = self.thermal;
+        let soil = self.shown("ρT4", self.thermal.soil());
+        let outer = 1000 * (t2 + t3) + soil;
+        let path = self.shown("1000T1+2n(1000(T2+T3)+ρT4)", 1000 * t1 + 2 * cores * outer);
+        let dd = self.shown("dd", stages::dielectric_rise(wd, &self.thermal));
+        assert_eq!(dd, up(wd * path, 2 * T));
+        dd
+    }
+
+    /// N.
+    fn show_rise_left(&self, dd: u128) -> u128 {
+        let [rise, isotherm_rise] = [3, 28].map(|field| {
+            // An isotherm without dry soil is 0, and adds nothing.
+            u128::try_from(value(&self.case, field) - value(&self.case, 4)).unwrap_or(0)
+        });
+        let ratio = self.thermal.soil_ratio;
+        let permitted = self.shown("P", stages::permitted_rise(rise, ratio, isotherm_rise));
+        assert_eq!(permitted, Cable::of(&self.case).permitted_rise());
+        let n_left = self.shown("N", stages::rise_left(permitted, dd));
+        self.shown("10dd", 10 * dd);
+        self.shown("9P", 9 * permitted);
+        n_left
+    }
+
+    fn show_effective_resistance(&self, [r, s, w]: [u128; 3]) -> u128 {
+        let Thermal { t1, t2, t3, cores, .. } = self.thermal;
+        let outer = 1000 * t3 + self.thermal.soil();
+        let parts = [
+            self.shown("E1", up(r * t1, 1_000_000)),
+            self.shown("E2", up(cores * (r + s) * t2, 1_000_000)),
+            self.shown("E3", up(cores * (r + s + w) * outer, 1_000_000_000)),
+        ];
+        let e = self.shown("E", stages::effective_resistance(r, s, w, &self.thermal));
+        assert_eq!(e, parts.iter().sum());
+        e
+    }
+
+    /// I, and the three numbers that show it to be the largest.
+    fn show_current(&self, n_left: u128, e: u128) -> u128 {
+        let most = 10 * T * n_left;
+        let current = stages::largest_current(n_left, e);
+        let (at, next) = (current * current * e, (current + 1) * (current + 1) * e);
+        assert!(at <= most && most < next);
+        self.shown("down(10^13N/E)", down(most, e));
+        self.shown("I", current);
+        self.shown("I²E", at);
+        self.shown("10^13N", most);
+        self.shown("(I+1)²E", next);
+        current
+    }
+
+    /// From Wd to I: dd, E and I.
+    fn show_rating(&self, wd: u128, ohms: [u128; 3]) -> [u128; 3] {
+        let dd = self.show_dielectric_rise(wd);
+        let n_left = self.show_rise_left(dd);
+        let e = self.show_effective_resistance(ohms);
+        [dd, e, self.show_current(n_left, e)]
+    }
 }
 
 fn show_cable() {
@@ -299,12 +346,18 @@ fn show_cable() {
     let [x, x_low] = show_reactances([b, b_low], logs);
     let s = show_sheath(x, rs);
     let w = show_screened(show_unscreened(ra, b), x_low, rs);
-    let [wd, dd, n_left] = show_dielectric(b, logs[2]);
-    let e = show_effective_resistance(r, s, w);
-    let rating = show_current(n_left, e) as u32;
-    let sheet = [rc, rs, ra, b, ys, yp, r, x, s, w, wd, dd, e].map(|number| number as u64);
+    let wd = show_dielectric_loss(b, logs[2]);
+    let [dd, e, current] = MOIST_SOIL.show_rating(wd, [r, s, w]);
+    let sheet =
+        |dd, e| [rc, rs, ra, b, ys, yp, r, x, s, w, wd, dd, e].map(|number: u128| number as u64);
     // The steps above are those that `rate` takes.
-    assert_eq!(rate(&CASE), Rated { answer: 0, rating, sheet });
+    let rated = Rated { answer: 0, rating: current as u32, sheet: sheet(dd, e) };
+    assert_eq!(rate(&CASE), rated);
+    show("ρ.dry", DRY_CASE[27]);
+    show("θx.dry", value(&DRY_CASE, 28));
+    let [dd, e, current] = DRIED_SOIL.show_rating(wd, [r, s, w]);
+    let rated = Rated { answer: 0, rating: current as u32, sheet: sheet(dd, e) };
+    assert_eq!(rate(&DRY_CASE), rated);
 }
 
 // The stages that the cable above does not use.

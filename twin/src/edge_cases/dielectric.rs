@@ -9,12 +9,13 @@ use crate::turning::first;
 /// How far dd lies above the largest that passes, in 10^-9 K.
 fn above_limit(case: &Words) -> i128 {
     let cable = Cable::of(case);
-    cable.dielectric().1 as i128 - 9_000_000 * cable.rise() as i128
+    // The permitted rise is a whole number of 10^-5 K.
+    cable.dielectric().1 as i128 - 9 * (cable.permitted_rise() / 10) as i128
 }
 
 /// A cable of the least rise and the largest thermal resistances, of which T1
 /// then moves dd by the smallest steps.
-fn fine(cable: &Words) -> Words {
+pub fn fine(cable: &Words) -> Words {
     let cold = with(cable, &[(3, 4500), (4, 4000), (11, 100), (12, 100), (16, 4000)]);
     let mut case = with(&cold, &[(22, 10_000_000), (23, 10_000_000), (24, 10_000_000)]);
     case[19] = case[19].min(4000);
@@ -23,7 +24,7 @@ fn fine(cable: &Words) -> Words {
 
 /// The first case, by its voltage, whose dd lies so far above the limit. dd
 /// grows with the voltage and with T1.
-fn at_distance(cable: &Words, distance: i128) -> Option<Words> {
+pub fn at_distance(cable: &Words, distance: i128) -> Option<Words> {
     let reaches = |case: &Words| above_limit(case) >= distance;
     let lowest = first(cable, 10, reaches)?;
     (lowest[10]..=limits(10).1 as u32).find_map(|volts| {

@@ -1,10 +1,10 @@
 // The voltage from which the dielectric loss counts, field 26: at U0 and one
 // beside it, at both ends of its limits and one beyond, in cables that are refused
 // for their dielectric wherever the loss counts and in those that are rated either
-// way. Then the fields after it, which have no meaning and must be zero.
+// way.
 
 use super::{Edge, Group};
-use crate::rating::{Words, WIDTH};
+use crate::rating::Words;
 use crate::sample_cables::{with, ALL, LOW_VOLTAGE};
 
 /// The highest of its limits, and of U0's.
@@ -59,16 +59,4 @@ pub fn loss_voltage() -> Group {
         remark: "The voltage from which the dielectric loss counts: about U0 and its limits.",
         edges: cables().flat_map(|cable| [refused(&cable), rated(&cable)]).flatten().collect(),
     }
-}
-
-pub fn unassigned() -> Group {
-    let mut edges = Vec::new();
-    for cable in cables() {
-        for field in 27..WIDTH {
-            for word in [1, 1 << 31, u32::MAX] {
-                edges.push(Edge { case: with(&cable, &[(field, word)]), answer: 4 });
-            }
-        }
-    }
-    Group { remark: "Each field without a meaning, not zero.", edges }
 }

@@ -1,5 +1,5 @@
 // Cases in which two refusals hold at once, so that the earlier is answered:
-// every pair of refusals 1 to 11, and every pair of those that a cable with a
+// every pair of refusals 1 to 11 and 31, and every pair of those that a cable with a
 // common sheath can get. A test asks both tests by themselves.
 //
 // Some pairs cannot hold as the documents state the tests, but the case is kept,
@@ -9,12 +9,11 @@
 // 1 with 11, as stage 7 is stated for arrangements 1 to 6;
 // 2 with 8 and 11, as ks, kp and the temperature coefficient are for codes 1 to 8.
 // 3 by the loss voltage is not with 10: beyond its limits it is above every U0, so
-// that the loss does not count.
+// that the loss does not count. 4 by the isotherm is not with 31, which asks for a v.
 
 use super::{Edge, Group};
 use crate::rating::{holds, Words};
 use crate::sample_cables::{with, COMMON_SHEATH, SL_TYPE, TREFOIL_SINGLE_POINT};
-use std::cmp::Ordering;
 
 type Changes = &'static [(usize, u32)];
 
@@ -23,16 +22,24 @@ type Bring = (u32, Changes);
 
 const COLD: u32 = (-4000i32) as u32;
 
+/// The order in which the refusals are tried, as document 02 has it.
+pub const ORDER: [u32; 12] = [1, 2, 3, 4, 5, 6, 31, 7, 8, 9, 10, 11];
+
+fn place(refusal: u32) -> usize {
+    ORDER.iter().position(|&number| number == refusal).expect("a refusal of a case")
+}
+
 /// Changes to the trefoil bonded at one point that bring about each refusal,
 /// chosen so that they hardly disturb one another. The pairs apply the later
 /// refusal's changes first, so 8's lower R0 stands over 11's.
-pub const BRINGS: [Bring; 11] = [
+pub const BRINGS: [Bring; 12] = [
     (1, &[(0, 7)]),
     (2, &[(1, 9)]),
     (3, &[(11, 801)]),
     (4, &[(17, 1)]),
     (5, &[(6, 2841)]),
     (6, &[(16, 8501)]),
+    HOT_ISOTHERM,
     (7, &[(14, 3)]),
     (8, &[(5, 5000)]),
     (9, &[(15, 1000)]),
@@ -52,13 +59,14 @@ const BY_CORE_OR_ARMOUR: [(u32, Changes, Changes); 4] = [
 /// As BRINGS, for the cable with a common sheath, which may be of any metal and
 /// any resistance, so that 7 and 9 cannot hold. 8's frequency and R0 stand over
 /// 11's.
-pub const COMMON_BRINGS: [Bring; 9] = [
+pub const COMMON_BRINGS: [Bring; 10] = [
     (1, &[(0, 7)]),
     (2, &[(1, 9)]),
     (3, &[(11, 801)]),
     (4, &[(17, 1)]),
     (5, &[(6, 1971)]),
     (6, &[(16, 9001)]),
+    HOT_ISOTHERM,
     (8, &[(2, 6500), (5, 5000)]),
     (10, &[(9, 2099), (10, 300_000), (11, 800), (12, 10000)]),
     (11, &[(2, 1000), (4, COLD), (5, 5000), (15, 20_000_000), (22, 1000), (24, 0), (25, 10000)]),
@@ -69,10 +77,44 @@ pub const COMMON_BRINGS: [Bring; 9] = [
 const COMMON_OWN: [Bring; 4] =
     [(3, &[(20, 99)]), (4, &[(21, 1)]), (5, &[(7, 1849)]), (5, &[(20, 3689)])];
 
-/// Changes to any cable, by the fields that all arrangements have alike: a loss
-/// voltage beyond its limits, and the first field without a meaning.
+// Changes to any cable, by the fields that all arrangements have alike.
+
 const LOSS_VOLTAGE: Bring = (3, &[(26, 300_001)]);
-const UNASSIGNED: Bring = (4, &[(27, 1)]);
+const SOIL_RATIO: Bring = (3, &[(27, 5001)]);
+const ISOTHERM_BEYOND: Bring = (3, &[(27, 2000), (28, 25001)]);
+/// The same without a v.
+const ISOTHERM_BEYOND_ALONE: Bring = (3, &[(28, 25001)]);
+const STRAY_ISOTHERM: Bring = (4, &[(28, 5000)]);
+const UNASSIGNED: Bring = (4, &[(29, 1)]);
+/// Hotter than any conductor that is not the hottest.
+const HOT_ISOTHERM: Bring = (31, &[(27, 2000), (28, 25000)]);
+/// Colder than any ambient that is not the coldest, with a v of moist soil.
+const COLD_ISOTHERM: Bring = (31, &[(27, 1000), (28, COLD)]);
+
+/// Each with the refusals of other changes that it cannot hold together with, or only
+/// in another's case: 11's make the ambient the coldest.
+const ALIKE: [(Bring, &[u32]); 7] = [
+    (LOSS_VOLTAGE, &[10]),
+    (SOIL_RATIO, &[]),
+    (ISOTHERM_BEYOND, &[]),
+    (ISOTHERM_BEYOND_ALONE, &[31]),
+    (STRAY_ISOTHERM, &[31]),
+    (UNASSIGNED, &[]),
+    (COLD_ISOTHERM, &[11]),
+];
+
+/// Those of them that hold together, the earlier first.
+const ALIKE_PAIRS: [(Bring, Bring); 9] = [
+    (LOSS_VOLTAGE, STRAY_ISOTHERM),
+    (LOSS_VOLTAGE, UNASSIGNED),
+    (LOSS_VOLTAGE, COLD_ISOTHERM),
+    (SOIL_RATIO, UNASSIGNED),
+    (SOIL_RATIO, COLD_ISOTHERM),
+    (ISOTHERM_BEYOND, UNASSIGNED),
+    (ISOTHERM_BEYOND_ALONE, STRAY_ISOTHERM),
+    (ISOTHERM_BEYOND_ALONE, UNASSIGNED),
+    (UNASSIGNED, COLD_ISOTHERM),
+];
 
 /// A case, the cable that it was made of, and the two refusals that hold of it,
 /// the earlier first.
@@ -130,12 +172,15 @@ fn armour_pairs() -> Vec<Pair> {
 
 /// Those of one way to bring about a refusal with each other refusal.
 fn pairs_with(cable: &Words, own: Bring, brings: &[Bring]) -> Vec<Pair> {
-    let with_other = |&other: &Bring| match own.0.cmp(&other.0) {
-        Ordering::Less => Some(pair(cable, own, other)),
-        Ordering::Equal => None,
-        Ordering::Greater => Some(pair(cable, other, own)),
+    let others = brings.iter().filter(|other| other.0 != own.0);
+    let in_order = |&other: &Bring| {
+        if place(own.0) < place(other.0) {
+            pair(cable, own, other)
+        } else {
+            pair(cable, other, own)
+        }
     };
-    brings.iter().filter_map(with_other).collect()
+    others.map(in_order).collect()
 }
 
 /// Those of what arrangement 6 alone asks.
@@ -146,10 +191,12 @@ fn common_own_pairs() -> Vec<Pair> {
 /// Those of the fields that all arrangements have alike, with each other and with a
 /// cable's refusals.
 fn alike_pairs(cable: &Words, brings: &[Bring]) -> Vec<Pair> {
-    let not_10: Vec<Bring> = brings.iter().copied().filter(|bring| bring.0 != 10).collect();
-    let mut pairs = vec![pair(cable, LOSS_VOLTAGE, UNASSIGNED)];
-    pairs.extend(pairs_with(cable, LOSS_VOLTAGE, &not_10));
-    pairs.extend(pairs_with(cable, UNASSIGNED, brings));
+    let mut pairs = Vec::new();
+    for (own, not_with) in ALIKE {
+        let others = brings.iter().copied().filter(|bring| !not_with.contains(&bring.0));
+        pairs.extend(pairs_with(cable, own, &others.collect::<Vec<Bring>>()));
+    }
+    pairs.extend(ALIKE_PAIRS.map(|(earlier, later)| pair(cable, earlier, later)));
     pairs
 }
 
@@ -160,7 +207,9 @@ pub fn all() -> Vec<Pair> {
     pairs.extend(every_pair(&COMMON_SHEATH, &COMMON_BRINGS));
     pairs.extend(common_own_pairs());
     pairs.extend(alike_pairs(&TREFOIL_SINGLE_POINT, &BRINGS));
-    pairs.extend(alike_pairs(&SL_TYPE, &BY_CORE_OR_ARMOUR.map(|(number, core, _)| (number, core))));
+    let by_core = BY_CORE_OR_ARMOUR.map(|(number, core, _)| (number, core));
+    pairs.extend(pairs_with(&SL_TYPE, HOT_ISOTHERM, &by_core));
+    pairs.extend(alike_pairs(&SL_TYPE, &[&by_core[..], &[HOT_ISOTHERM]].concat()));
     pairs.extend(alike_pairs(&COMMON_SHEATH, &COMMON_BRINGS));
     pairs
 }

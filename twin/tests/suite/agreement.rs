@@ -4,8 +4,9 @@
 use twin::dice::Dice;
 use twin::drawn_cases::{disturb, sound_case};
 use twin::edge_cases::common_sheath::{with_sheath, NEAREST};
-use twin::rating::{rate, Rated, Words};
-use twin::sample_cables::{with, ALL, LOW_VOLTAGE};
+use twin::edge_cases::pairs::ORDER;
+use twin::rating::{dry_soil, rate, Rated, Words};
+use twin::sample_cables::{with, ALL, DRY_SOIL, LOW_VOLTAGE};
 use twin::standard::Cable;
 
 /// The float rating less the whole one, in mA. The whole one is cautious: it
@@ -22,14 +23,13 @@ fn shortfall(case: &Words, rated: &Rated) -> f64 {
 /// What the stages' rounding costs before I is rounded to whole mA, as a part
 /// of the rating: dd and E from the sheet, the root in floating point.
 fn relative_gap(case: &Words, rated: &Rated) -> f64 {
-    let rise = f64::from(case[3] as i32) - f64::from(case[4] as i32);
-    let left = 1e7 * rise - rated.sheet[11] as f64;
+    let left = 1e9 * Cable::from_fields(case).permitted_rise() - rated.sheet[11] as f64;
     let amperes = (1e7 * left / rated.sheet[12] as f64).sqrt();
     (1.0 - amperes / Cable::from_fields(case).rating()).abs()
 }
 
 /// Variations every arrangement can bear.
-const VARIATIONS: [&[(usize, u32)]; 10] = [
+const VARIATIONS: [&[(usize, u32)]; 14] = [
     &[],
     &[(2, 6000)],
     &[(2, 1667), (4, 0)],
@@ -40,6 +40,10 @@ const VARIATIONS: [&[(usize, u32)]; 10] = [
     &[(10, 0)],
     &[(15, 500_000), (16, (-500i32) as u32), (23, 90_000)],
     &[(26, 300_000)],
+    &[(27, 1000), (28, 6000)],
+    &[(27, 2500), (28, 4500)],
+    &[(27, 5000), (28, 7000)],
+    &[(4, (-2000i32) as u32), (27, 3333), (28, (-100i32) as u32)],
 ];
 
 #[test]
@@ -74,7 +78,8 @@ fn rolled_cases_agree() {
     let mut largest = 0f64;
     let mut widest = 0f64;
     let mut rated_cases = [0; 6];
-    let mut refused = [0; 12];
+    let mut dry_cases = [0; 6];
+    let mut refused = [0; 32];
     for _ in 0..40_000 {
         let case = sound_case(&mut dice);
         let rated = rate(&case);
@@ -84,12 +89,15 @@ fn rolled_cases_agree() {
             largest = largest.max(short);
             widest = widest.max(relative_gap(&case, &rated));
             rated_cases[case[0] as usize - 1] += 1;
+            dry_cases[case[0] as usize - 1] += usize::from(dry_soil(&case));
         }
     }
-    println!("rolled cases: rated by arrangement {rated_cases:?}, answers {refused:?}");
+    println!("rolled cases: rated by arrangement {rated_cases:?}, in dry soil {dry_cases:?}");
+    println!("answers {refused:?}");
     println!("largest shortfall {largest} mA; before the last rounding {widest:e} of the rating");
     assert!(rated_cases.iter().all(|&count| count > 500));
-    assert!(refused[1..8].iter().all(|&count| count == 0));
+    assert!(dry_cases.iter().all(|&count| count > 200));
+    assert!(refused[1..8].iter().chain(&refused[31..]).all(|&count| count == 0));
 }
 
 /// A sheet number and its scale against the float, for the parts of the sheet
@@ -98,7 +106,8 @@ fn rolled_cases_agree() {
 fn sheets_agree() {
     let without_loss = ALL.map(|case| with(&case, &[(26, case[10] + 1)]));
     let at_u0 = ALL.map(|case| with(&case, &[(26, case[10])]));
-    for case in [ALL, without_loss, at_u0].into_iter().flatten().chain([LOW_VOLTAGE]) {
+    let others = [LOW_VOLTAGE, DRY_SOIL];
+    for case in [ALL, without_loss, at_u0].into_iter().flatten().chain(others) {
         let sheet = rate(&case).sheet.map(|number| number as f64);
         let cable = Cable::from_fields(&case);
         let r = cable.ac_resistance();
@@ -133,7 +142,8 @@ fn any_words_get_an_answer() {
         let mut case = sound_case(&mut dice);
         disturb(&mut case, round % 4, &mut dice);
         let rated = rate(&case);
-        assert!(rated.answer <= 11 && rated.rating <= 5_000_000);
+        assert!(rated.answer == 0 || ORDER.contains(&rated.answer));
+        assert!(rated.rating <= 5_000_000);
         assert!(rated.answer == 0 || (rated.rating == 0 && rated.sheet == [0; 13]));
     }
 }

@@ -9,7 +9,7 @@ use twin::dice::Dice;
 use twin::drawn_books::{drawn_book, KINDS};
 use twin::listing::{listing, LONGEST_BOOK};
 use twin::rating::{rate, Words};
-use twin::sample_cables::{with, ALL, LOW_VOLTAGE, SL_TYPE, TREFOIL};
+use twin::sample_cables::{with, ALL, DRY_SOIL, LOW_VOLTAGE, SL_TYPE, TREFOIL};
 use twin::sound_books::{big_endian, sound_book, sound_book_of};
 
 pub const ZEROS: Words = [0; 30];
@@ -88,11 +88,11 @@ fn start_writes_sixteen_bytes_after_the_note() {
     assert_eq!(listing(&buffer[..36]), b"book 0\n");
 }
 
-/// The cases of most tests: one of every arrangement, two that are refused, and one
-/// whose loss does not count.
+/// The cases of most tests: one of every arrangement, some that are refused, one whose
+/// loss does not count, and one in dry soil.
 fn cases() -> Vec<Words> {
-    let refused = with(&TREFOIL, &[(14, 7)]);
-    [ALL.as_slice(), &[refused, ZEROS, [u32::MAX; 30], LOW_VOLTAGE]].concat()
+    let refused = [with(&TREFOIL, &[(14, 7)]), with(&DRY_SOIL, &[(28, 8501)]), ZEROS];
+    [ALL.as_slice(), &refused, &[[u32::MAX; 30], LOW_VOLTAGE, DRY_SOIL]].concat()
 }
 
 #[test]

@@ -7,7 +7,7 @@ use twin::book::{
     LAYOUTS, RATING, RBK1, RBK2, RECORD_LENGTH, TRAILER_LENGTH,
 };
 use twin::rating::rate;
-use twin::sample_cables::{with, SL_TYPE, TREFOIL};
+use twin::sample_cables::{with, DRY_SOIL, SL_TYPE, TREFOIL};
 use twin::sound_books::{big_endian, sound_book, sound_book_of, trailer};
 
 /// What an operation is tried on. Sound, it is a book of three records after a
@@ -265,6 +265,26 @@ fn changed_inputs_are_rated_again() {
             assert_eq!(accept(&book, book.len()).is_ok(), same, "field {field}");
         }
     }
+}
+
+#[test]
+fn changed_soils_are_rated_again() {
+    for (field, word) in [(27, 2501), (27, 0), (28, 5001), (28, 8501)] {
+        let mut book = sound_book_of(RBK2, &[], &[DRY_SOIL]);
+        assert!(accept(&book, book.len()).is_ok());
+        put_word(&mut book, 4 * field, word);
+        assert_eq!(accept(&book, book.len()), Err(Refusal::Disagrees(1)), "{field} {word}");
+    }
+}
+
+/// An older record has neither field, so that its soil is moist.
+#[test]
+fn older_records_are_of_moist_soil() {
+    let book = sound_book_of(RBK1, &[], &[DRY_SOIL]);
+    let record = read(&book, book.len(), 0).expect("a record");
+    assert_eq!(case_of(&record), SL_TYPE);
+    assert_eq!((record[ANSWER], record[RATING]), (0, rate(&SL_TYPE).rating));
+    assert!(accept(&book, book.len()).is_ok());
 }
 
 /// Records of one mark under the trailer of the other: with no record the rest is

@@ -3,6 +3,7 @@
 use twin::book::{accept, append, case_of, read, Refusal, ANSWER, LAYOUTS, RATING};
 use twin::dice::Dice;
 use twin::drawn_books::{drawn_book, KINDS};
+use twin::edge_cases::pairs::ORDER;
 use twin::listing::listing;
 use twin::rating::rate;
 
@@ -89,16 +90,21 @@ fn either_mark_gets_every_refusal() {
 
 #[test]
 fn records_of_every_answer_appear() {
-    let mut answers = [0; 12];
+    let mut answers = [0; 32];
+    let mut rated_in_dry_soil = 0;
     for book in drawn_books(2) {
         let Ok(parts) = accept(&book, book.len()) else { continue };
         for index in 0..parts.count {
             let record = read(&book, book.len(), index).expect("below the count");
             answers[record[ANSWER] as usize] += 1;
+            rated_in_dry_soil += usize::from(record[ANSWER] == 0 && record[27] != 0);
         }
     }
-    println!("answers 0 to 11 {answers:?}");
-    assert!(answers.iter().all(|&count| count > 0));
+    println!("answers 0 to 31 {answers:?}; {rated_in_dry_soil} rated in dry soil");
+    assert!(answers[0] > 0 && ORDER.iter().all(|&number| answers[number as usize] > 0));
+    // Half of the books are older and have none, and a good half of the others' cases
+    // are in moist soil.
+    assert!(rated_in_dry_soil > answers[0] / 8);
 }
 
 #[test]

@@ -5,7 +5,8 @@
 use twin::cable::Cable;
 use twin::dice::Dice;
 use twin::drawn_cases::drawn_case;
-use twin::rating::{loss_counts, rate, Words, CURRENT_LIMIT, SKIN_LIMIT};
+use twin::edge_cases::pairs::ORDER;
+use twin::rating::{dry_soil, loss_counts, rate, value, Words, CURRENT_LIMIT, SKIN_LIMIT};
 use twin::stages::LARGEST_RS_OF_SUM;
 
 const DRAWN: usize = 100_000;
@@ -25,12 +26,13 @@ fn nearest(numbers: impl Iterator<Item = u128>, limit: u128) -> u128 {
 
 #[test]
 fn every_answer_occurs() {
-    let mut answers = [0; 12];
+    let mut answers = [0; 32];
     for (_, answer) in drawn() {
         answers[answer as usize] += 1;
     }
-    println!("answers 0 to 11 of {DRAWN} drawn cases: {answers:?}");
-    assert!(answers.iter().all(|&count| count > DRAWN / 1000), "{answers:?}");
+    println!("answers 0 to 31 of {DRAWN} drawn cases: {answers:?}");
+    let few = |answer: &u32| answers[*answer as usize] <= DRAWN / 1000;
+    assert!(![0].iter().chain(&ORDER).any(few), "{answers:?}");
 }
 
 #[test]
@@ -45,12 +47,11 @@ fn currents_next_to_the_limit_occur() {
     }
 }
 
-/// A name of loss voltages, and whether a case has such a one.
+/// A name of values of a field, and whether a case has such a one.
 type Place = (&'static str, fn(&Words) -> bool);
 
 /// Of rated cases and of those refused for their dielectric, the loss voltage is 0,
-/// U0 itself, one above or below it, and the highest; beyond its limits it is refused,
-/// and so is each field without a meaning.
+/// U0 itself, one above or below it, and the highest; beyond its limits it is refused.
 #[test]
 fn loss_voltages_about_u0_and_their_limits_occur() {
     let drawn = drawn();
@@ -70,9 +71,57 @@ fn loss_voltages_about_u0_and_their_limits_occur() {
     assert_eq!(count(&drawn, |case, answer| answer == 10 && !loss_counts(case)), 0);
     let beyond = |voltage| count(&drawn, |case, answer| case[26] == voltage && answer == 3);
     assert!(beyond(300_001).min(beyond(u32::MAX)) > 20);
-    for field in 27..30 {
-        let stray = count(&drawn, |case, answer| case[field] != 0 && answer == 4);
-        assert!(stray > 50, "{field}: {stray}");
+}
+
+/// What v and the isotherm may be and may not: a share of the cases of each answer.
+#[test]
+fn dry_soils_about_their_limits_occur() {
+    let drawn = drawn();
+    let places: [Place; 8] = [
+        ("no v", |case| case[27] == 0),
+        ("v 1000", |case| case[27] == 1000),
+        ("v between", |case| (1001..5000).contains(&case[27])),
+        ("v 5000", |case| case[27] == 5000),
+        ("θx at θa", |case| dry_soil(case) && case[28] == case[4]),
+        ("θx between", |case| dry_soil(case) && case[28] != case[4] && case[28] != case[3]),
+        ("θx at θc", |case| dry_soil(case) && case[28] == case[3]),
+        ("θx below zero", |case| dry_soil(case) && value(case, 28) < 0),
+    ];
+    for (name, place) in places {
+        for (answer, least) in [(0, DRAWN / 100), (10, DRAWN / 100), (11, DRAWN / 1000)] {
+            let given = count(&drawn, |case, given| given == answer && place(case));
+            println!("{name} in {given} cases of answer {answer}");
+            assert!(given > least, "{name}, {answer}: {given}");
+        }
+    }
+}
+
+/// Refusals by v and the isotherm, at the least step beyond what passes.
+#[test]
+fn dry_soils_beyond_their_limits_occur() {
+    let drawn = drawn();
+    let beyond: [(u32, Place); 9] = [
+        (3, ("v 999", |case| case[27] == 999)),
+        (3, ("v 5001", |case| case[27] == 5001)),
+        (3, ("θx -4001 with v", |case| dry_soil(case) && value(case, 28) == -4001)),
+        (3, ("θx -4001 without", |case| !dry_soil(case) && value(case, 28) == -4001)),
+        (3, ("θx 25001 with v", |case| dry_soil(case) && case[28] == 25001)),
+        (3, ("θx 25001 without", |case| !dry_soil(case) && case[28] == 25001)),
+        (4, ("θx without v", |case| !dry_soil(case) && case[28] != 0)),
+        (31, ("θx below θa", |case| value(case, 28) + 1 == value(case, 4))),
+        (31, ("θx above θc", |case| case[28] == case[3] + 1)),
+    ];
+    for (answer, (name, place)) in beyond {
+        let given = count(&drawn, |case, given| given == answer && place(case));
+        println!("{name} in {given} cases of answer {answer}");
+        assert!(given > 20, "{name}, {answer}: {given}");
+    }
+    let unassigned = count(&drawn, |case, answer| case[29] != 0 && answer == 4);
+    assert!(unassigned > 50, "{unassigned}");
+    // Every refusal of a case is given in dry soil too.
+    for refusal in ORDER {
+        let given = count(&drawn, |case, given| given == refusal && dry_soil(case));
+        assert!(given > 50, "{refusal}: {given}");
     }
 }
 
@@ -110,7 +159,7 @@ fn count(cases: &[(Words, u32)], test: impl Fn(&Words, u32) -> bool) -> usize {
 #[test]
 fn common_sheaths_get_every_answer_they_can() {
     let cases = drawn_common_sheaths();
-    for answer in [0, 2, 3, 4, 5, 6, 8, 10, 11] {
+    for answer in [0, 2, 3, 4, 5, 6, 31, 8, 10, 11] {
         let given = count(&cases, |_, given| given == answer);
         println!("answer {answer}: {given} of {} common sheaths", cases.len());
         assert!(given > cases.len() / 500, "{answer}: {given}");

@@ -3,7 +3,7 @@
 
 use twin::cable::Cable;
 use twin::edge_cases::common_sheath;
-use twin::edge_cases::pairs::{all, Pair};
+use twin::edge_cases::pairs::{all, Pair, ORDER};
 use twin::edge_cases::skin::{with_skin, Nearest, NEAREST};
 use twin::edge_cases::{groups, Edge};
 use twin::rating::{rate, SKIN_LIMIT};
@@ -29,6 +29,20 @@ fn both_refusals_of_a_pair_hold() {
         let Pair { case, earlier, later, .. } = &pair;
         assert!(pair.both_hold(), "{earlier} and {later}: {case:?}");
     }
+}
+
+/// Every two of the refusals, in the order in which they are tried.
+#[test]
+fn every_pair_of_refusals_is_among_them() {
+    assert_eq!(ORDER, [1, 2, 3, 4, 5, 6, 31, 7, 8, 9, 10, 11]);
+    let pairs = all();
+    for (place, earlier) in ORDER.iter().enumerate() {
+        for later in &ORDER[place + 1..] {
+            let found = pairs.iter().any(|pair| (pair.earlier, pair.later) == (*earlier, *later));
+            assert!(found, "{earlier} and {later}");
+        }
+    }
+    assert!(pairs.iter().all(|pair| ORDER.contains(&pair.earlier) && ORDER.contains(&pair.later)));
 }
 
 /// How far a z lies above the limit of refusal 8.

@@ -1,13 +1,14 @@
 // Document 01's 'Values at the edges', as far as they concern the rating, and
-// those of document 02's common sheath, each asked of the function that gives it;
-// those that can be reached by a whole case are asked of a case too.
+// those of document 02's common sheath and dry soil, each asked of the function
+// that gives it; those that can be reached by a whole case are asked of a case
+// too.
 
 use twin::edge_cases::common_sheath::ROUNDINGS;
 use twin::rating::{dielectric_refused, eddy_refused, rate, skin_refused, Rated, Words};
 use twin::sample_cables::{
-    with, COMMON_ALUMINIUM_SHEATH, COMMON_SHEATH, SL_TYPE, TREFOIL_SINGLE_POINT,
+    with, COMMON_ALUMINIUM_SHEATH, COMMON_SHEATH, DRY_SOIL, SL_TYPE, TREFOIL_SINGLE_POINT,
 };
-use twin::stages::{self, T};
+use twin::stages::{self, MOIST, T};
 use twin::tables;
 
 #[test]
@@ -63,8 +64,9 @@ fn eddy_limit() {
 
 #[test]
 fn dielectric_limit() {
-    assert!(!dielectric_refused(45_000_000_000, 5000));
-    assert!(dielectric_refused(45_000_000_001, 5000));
+    let permitted = stages::permitted_rise(5000, MOIST, 0);
+    assert!(!dielectric_refused(45_000_000_000, permitted));
+    assert!(dielectric_refused(45_000_000_001, permitted));
 }
 
 #[test]
@@ -168,6 +170,10 @@ fn whole_sheet_of_the_sl_cable() {
         3_323_443_717_554,
     ];
     whole_sheet(&SL_TYPE, 457_106, expected);
+    // In dry soil dd and E alone are others.
+    let mut dry = expected;
+    dry[11..].copy_from_slice(&[1_177_027_308, 6_744_896_324_490]);
+    whole_sheet(&DRY_SOIL, 424_115, dry);
 }
 
 #[test]

@@ -11,9 +11,9 @@ use twin::figure::figure;
 use twin::fraction::Fraction;
 use twin::margins::{distance_under_line, margins, margins_at, Margins};
 use twin::published::published;
-use twin::rating::{rate, Rated, Words};
+use twin::rating::{dry_soil, rate, Rated, Words};
 use twin::sample_cables::{
-    with, ALL, COMMON_SHEATH, FLAT, LOW_VOLTAGE, SL_TYPE, TREFOIL, TREFOIL_SINGLE_POINT,
+    with, ALL, COMMON_SHEATH, DRY_SOIL, FLAT, LOW_VOLTAGE, SL_TYPE, TREFOIL, TREFOIL_SINGLE_POINT,
 };
 use twin::standard::Cable;
 
@@ -28,13 +28,16 @@ fn drawn_cases(seed: u64, count: usize) -> impl Iterator<Item = (Words, Rated)> 
 fn both_bounds_hold_at_every_combination_of_ends() {
     let mut all = Margins::none();
     let mut arrangements = [0; 6];
+    let mut dry = 0;
     for (case, rated) in drawn_cases(0x1e0c, 600) {
         let margins = margins(&case, &rated);
         all = all.join(&margins.unwrap_or_else(|| panic!("{case:?} {rated:?}")));
         arrangements[case[0] as usize - 1] += 1;
+        dry += usize::from(dry_soil(&case));
     }
-    println!("600 drawn cases {arrangements:?}: {all:?}");
+    println!("600 drawn cases {arrangements:?}, {dry} of them in dry soil: {all:?}");
     assert!(arrangements.iter().all(|&count| count > 50), "{arrangements:?}");
+    assert!(dry > 200 && dry < 400, "{dry}");
     assert!(all.under >= 0.0 && all.above > 0.0);
     // What the estimates by hand allow, stage by stage.
     assert!(all.e_error < 5e-8, "{all:?}");
@@ -116,15 +119,52 @@ const THOUSANDTHS: [(u128, u128); 7] = [
     (5_376_747_008_776_336, 168_887_414_975),
 ];
 
+/// The same with T4 one larger in soil that dries out, v 2501 and θx 45 degrees.
+const DRY_THOUSANDTHS: [(u128, u128); 7] = [
+    (2_589_154_075_180_405, 5_351_527_029_847),
+    (4_299_489_544_486_745, 992_858_529_358),
+    (2_331_576_191_159_966, 5_351_527_029_847),
+    (1_215_124_647_313_107, 4_050_191_678_372),
+    (6_747_189_969_905_485, 1_177_442_325_447),
+    (7_078_663_823_445_132, 389_849_704_975),
+    (12_068_982_507_333_559, 391_997_889_066),
+];
+
 #[test]
 fn each_real_looking_cable_to_the_thousandth() {
-    for (case, (e, dd)) in ALL.into_iter().zip(THOUSANDTHS) {
+    let dry = ALL.map(|case| with(&case, &[(25, case[25] + 1), (27, 2501), (28, 4500)]));
+    let moist_and_dry =
+        ALL.into_iter().zip(THOUSANDTHS).chain(dry.into_iter().zip(DRY_THOUSANDTHS));
+    for (case, (e, dd)) in moist_and_dry {
         let exact = Heating::of(&case, &Ends::of(&case).between([0; 4], 1));
         for (fraction, thousandths) in [(exact.e, e), (exact.dd, dd)] {
             let next = Fraction::new(thousandths + 1, 1000);
             assert!(Fraction::new(thousandths, 1000) <= fraction && fraction < next, "{case:?}");
         }
     }
+}
+
+/// The exact rise is held against what the dry zone adds too, and by its own T4.
+#[test]
+fn the_exact_rise_counts_dry_soil_as_the_rating_does() {
+    // θc - θa is 70 K, and 1.5 times 35 K come to it.
+    let added = permitted_rise(&DRY_SOIL);
+    assert_eq!(added, Fraction::whole(70_000_000_000 + 52_500_000_000));
+    // 0.001 times 35 K.
+    let least = with(&DRY_SOIL, &[(27, 1001)]);
+    assert_eq!(permitted_rise(&least), Fraction::whole(70_035_000_000));
+    // At the ambient's temperature nothing comes to it, and without a v neither.
+    let at_ambient = with(&DRY_SOIL, &[(28, 1500)]);
+    for case in [at_ambient, with(&DRY_SOIL, &[(27, 1000)]), SL_TYPE] {
+        assert_eq!(permitted_rise(&case), Fraction::whole(70_000_000_000));
+    }
+    for case in [DRY_SOIL, least, at_ambient, with(&DRY_SOIL, &[(27, 5000), (28, 8500)])] {
+        assert!(margins(&case, &rate(&case)).is_some(), "{case:?}");
+    }
+    // Neither rating is one of the other soil: each breaks a bound there.
+    assert!(margins(&DRY_SOIL, &rate(&SL_TYPE)).is_none());
+    assert!(margins(&SL_TYPE, &rate(&DRY_SOIL)).is_none());
+    assert!(margins(&at_ambient, &rate(&DRY_SOIL)).is_none());
 }
 
 /// Where the loss does not count the exact rise has none of it either.

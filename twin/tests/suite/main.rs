@@ -9,6 +9,7 @@ mod book_refusals;
 mod drawn_books;
 mod drawn_cases;
 mod drawn_lines;
+mod dry_soil;
 mod edge_cases;
 mod edges;
 mod exact;

@@ -1,16 +1,23 @@
-// The refusals 1 to 11: each by itself, and at the edges of its condition with
+// The refusals 1 to 11 and 31: each by itself, and at the edges of its condition with
 // the numbers as documents 01 and 02 have them.
 
 use twin::edge_cases::pairs::{BRINGS, COMMON_BRINGS};
 use twin::rating::{current_refused, rate, Rated, Words};
 use twin::sample_cables::{
-    with, ALL, COMMON_ALUMINIUM_SHEATH, COMMON_SHEATH, FLAT, FLAT_SINGLE_POINT, LOW_VOLTAGE,
-    SL_TYPE, TREFOIL, TREFOIL_SINGLE_POINT,
+    with, ALL, COMMON_ALUMINIUM_SHEATH, COMMON_SHEATH, DRY_SOIL, FLAT, FLAT_SINGLE_POINT,
+    LOW_VOLTAGE, SL_TYPE, TREFOIL, TREFOIL_SINGLE_POINT,
 };
 use twin::standard::Cable;
 
 const COLD: u32 = (-4000i32) as u32;
 const TOO_COLD: u32 = (-4001i32) as u32;
+
+type Changes = &'static [(usize, u32)];
+
+/// The changes that bring a refusal about.
+fn changes_for(number: u32, brings: &[(u32, Changes)]) -> Changes {
+    brings.iter().find(|bring| bring.0 == number).expect("a refusal that is brought about").1
+}
 
 fn refused_with(case: &Words, number: u32) {
     let expected = Rated { answer: number, rating: 0, sheet: [0; 13] };
@@ -40,9 +47,10 @@ fn each_refusal_by_itself() {
 /// the rise for 5000 A: the standard's formulas say that both do hold there.
 #[test]
 fn dielectric_and_current_hold_together() {
-    let single_core = (TREFOIL_SINGLE_POINT, BRINGS[9], BRINGS[10], 1.0);
-    let three_cores = (COMMON_SHEATH, COMMON_BRINGS[7], COMMON_BRINGS[8], 3.0);
-    for (case, (_, dielectric), (_, current), n) in [single_core, three_cores] {
+    let single_core = (TREFOIL_SINGLE_POINT, &BRINGS[..], 1.0);
+    let three_cores = (COMMON_SHEATH, &COMMON_BRINGS[..], 3.0);
+    for (case, brings, n) in [single_core, three_cores] {
+        let [dielectric, current] = [10, 11].map(|number| changes_for(number, brings));
         let cable = Cable::from_fields(&with(&with(&case, current), dielectric));
         let rise = cable.theta_c - cable.theta_a;
         let dielectric_rise = cable.dielectric_loss() * (0.5 * 0.001 + n * 0.01);
@@ -64,9 +72,9 @@ fn arrangement_and_conductor_ends() {
     refused_with(&[u32::MAX; 30], 1);
 }
 
-/// Just outside each limit of fields 2 to 26 in the SL cable, as document 01's
+/// Just outside each limit of fields 2 to 28 in the SL cable, as document 01's
 /// table of fields and document 02 have them.
-const JUST_OUTSIDE: [(usize, u32, u32); 25] = [
+const JUST_OUTSIDE: [(usize, u32, u32); 27] = [
     (2, 999, 6501),
     (3, 3999, 25001),
     (4, TOO_COLD, 6001),
@@ -92,6 +100,8 @@ const JUST_OUTSIDE: [(usize, u32, u32); 25] = [
     (24, u32::MAX, 10_000_001),
     (25, 9999, 20_000_001),
     (26, u32::MAX, 300_001),
+    (27, 999, 5001),
+    (28, TOO_COLD, 25001),
 ];
 
 fn limits_hold(cable: &Words, (field, below, above): (usize, u32, u32)) {
@@ -141,11 +151,15 @@ fn c_is_stray_only_in_single_core_cables() {
 
 #[test]
 fn fields_without_a_meaning_must_be_zero() {
+    for base in ALL.into_iter().chain([LOW_VOLTAGE, DRY_SOIL]) {
+        for word in [1, 6, 5000, 300_000, COLD, u32::MAX] {
+            refused_with(&with(&base, &[(29, word)]), 4);
+        }
+    }
+    // The isotherm has a meaning only with a v.
     for base in ALL.into_iter().chain([LOW_VOLTAGE]) {
-        for field in 27..30 {
-            for word in [1, 6, 5000, 300_000, COLD, u32::MAX] {
-                refused_with(&with(&base, &[(field, word)]), 4);
-            }
+        for word in [1, 5000, 25000, COLD, u32::MAX] {
+            refused_with(&with(&base, &[(28, word)]), 4);
         }
     }
 }
@@ -258,8 +272,7 @@ fn eddy_holds_only_where_bonded_at_one_point() {
 fn current_edge() {
     // The R0 at which the rating of this cable falls to 5000 A: found by
     // walking, then both sides must stand as the limit says.
-    let (_, large_current) = BRINGS[10];
-    let base = with(&TREFOIL, large_current);
+    let base = with(&TREFOIL, changes_for(11, &BRINGS));
     let first = (16000..2_000_000)
         .step_by(1000)
         .find(|&r0| rate(&with(&base, &[(5, r0)])).answer == 0)

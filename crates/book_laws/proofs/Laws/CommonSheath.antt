@@ -5,7 +5,8 @@ use Rattle.std.specs.Prelude.{List, [], ◌∷◌, ◌++◌, ◌≡◌, refl, �
 use Rattle.std.proofs.Common.{ap, ap₂}
 use Rattle.bools.specs.Earliest.{earliest}
 use Rattle.exact.specs.Fraction.{whole, ◌≤F◌, ◌<F◌}
-use Rattle.rating.specs.Exact.{exact_rise, permitted_of}
+use Rattle.rating.specs.Values.{permitted_of}
+use Rattle.rating.specs.Exact.{exact_rise}
 use Rattle.rating.proofs.Laws.Answers.{three_cores}
 use Rattle.rating.proofs.Laws.Instances.{answer_6, chosen_6, allowed_6}
 use Rattle.book_laws.specs.Bytes.{number_bytes, number_at, words_bytes, words_at, stands}

@@ -5,8 +5,9 @@ use Rattle.std.specs.Prelude.{true, List, [], ◌∷◌, ◌++◌, ◌≡◌, re
 use Rattle.std.proofs.Common.{sym, ap, ◌∙◌, suc-ne-zero, lit<, lit≤}
 use Rattle.exact.specs.Fraction.{whole, ◌≤F◌, ◌<F◌}
 use Rattle.splice.specs.Splice.{splice}
+use Rattle.rating.specs.Values.{permitted_of}
 use Rattle.rating.specs.Rate.{rate_of}
-use Rattle.rating.specs.Exact.{exact_rise, permitted_of}
+use Rattle.rating.specs.Exact.{exact_rise}
 use Rattle.rating.proofs.Laws.Answers.{cable}
 use Rattle.rating.proofs.Laws.Instances.{chosen, chosen_allowed}
 use Rattle.book_laws.specs.Bytes.{number_bytes, number_at, words_bytes, words_at, stands, below}

@@ -25,3 +25,7 @@ judged note each =
     let n = length each in
     cond (all_of true each) (record { number = 0; count = n; note = note; named = 0 })
     (unaccepted 23 (earliest (λ j. not (get_or each j true)) n + 1))
+
+-- of one record with the answer 0 and this rating, without a note, whose case has the answer n and the rating i
+abbrev pub accepted_as : (rating n i : ℕ) → Acceptance
+accepted_as rating n i = judged 0 (as_rated 0 rating n i ∷ [])

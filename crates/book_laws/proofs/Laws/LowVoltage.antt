@@ -5,7 +5,8 @@ use Rattle.std.specs.Prelude.{List, [], ◌∷◌, ◌++◌, ◌≡◌, refl, �
 use Rattle.std.proofs.Common.{ap, ap₂}
 use Rattle.bools.specs.Earliest.{earliest}
 use Rattle.exact.specs.Fraction.{whole, ◌≤F◌, ◌<F◌}
-use Rattle.rating.specs.Exact.{exact_rise, permitted_of}
+use Rattle.rating.specs.Values.{permitted_of}
+use Rattle.rating.specs.Exact.{exact_rise}
 use Rattle.rating.proofs.Laws.Answers.{low_voltage, low_voltage_counted}
 use Rattle.rating.proofs.Laws.Instances.{answer_low_voltage, answer_counted, chosen_low_voltage, allowed_low_voltage}
 use Rattle.book_laws.specs.Bytes.{number_bytes, number_at, words_bytes, words_at, stands}
@@ -14,18 +15,14 @@ use Rattle.book_laws.specs.Format.{all_fields, trailer_bytes}
 use Rattle.book_laws.specs.Trailer.{wrong_trailer, describe_at, describe_in, on_book_in}
 use Rattle.book_laws.specs.Record.{agrees, all_agree, first_disagreeing}
 use Rattle.book_laws.specs.Read.{read_after, read_in}
-use Rattle.book_laws.specs.Accept.{Acceptance, unaccepted, accept_after, accept_in}
+use Rattle.book_laws.specs.Accept.{unaccepted, accept_after, accept_in}
 use Rattle.book_laws.specs.Book.{layout_of, read_of, accept_of, Accepted}
 use Rattle.book_laws.proofs.Laws.Demands.{accepted}
-use Rattle.book_laws.proofs.Laws.Judged.{one_record, as_rated, judged}
+use Rattle.book_laws.proofs.Laws.Judged.{one_record, accepted_as}
 use Rattle.book_laws.proofs.Laws.Margin.{safe, close}
 
 abbrev book : List ℕ
 book = one_record rbk2 low_voltage 0 280655
-
--- what accept answers where the record has this rating, and the cable's answer is n and its rating i
-abbrev accepted_as : (rating n i : ℕ) → Acceptance
-accepted_as rating n i = judged 0 (as_rated 0 rating n i ∷ [])
 
 pub record LowVoltageBook : Type 0 where
   pub reads : read_of book 144 0 ≡ record { number = 0; fields = low_voltage ++ (0 ∷ 280655 ∷ []) }

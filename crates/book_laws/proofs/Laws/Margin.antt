@@ -5,11 +5,12 @@ use Rattle.std.specs.Prelude.{List, [], ◌∷◌, ◌++◌, ◌≡◌, refl, �
 use Rattle.std.proofs.Common.{sym, ap, subst, ◌∙◌, suc-ne-zero, arith, length-append, take_at, drop_at, leb-false}
 use Rattle.bools.proofs.Laws.Tests.{passed}
 use Rattle.exact.specs.Fraction.{whole, ◌≤F◌, ◌<F◌}
+use Rattle.rating.specs.Values.{permitted_of}
 use Rattle.rating.specs.Rate.{rate_of}
 use Rattle.rating.specs.Chosen.{Chosen}
 use Rattle.rating.specs.Arrangements.{own}
 use Rattle.rating.specs.Allowed.{Allowed}
-use Rattle.rating.specs.Exact.{exact_rise, permitted_of}
+use Rattle.rating.specs.Exact.{exact_rise}
 use Rattle.rating.proofs.Laws.Margin as Case
 use Rattle.book_laws.specs.Layout.{Layout, missing}
 use Rattle.book_laws.specs.Trailer.{describe_in}

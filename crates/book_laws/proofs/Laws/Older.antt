@@ -6,8 +6,9 @@ use Rattle.std.proofs.Common.{sym, ap, ap₂, ◌∙◌, arith, lit<, lit≤}
 use Rattle.bools.specs.Earliest.{earliest}
 use Rattle.exact.specs.Fraction.{whole, ◌≤F◌, ◌<F◌}
 use Rattle.splice.specs.Splice.{splice}
+use Rattle.rating.specs.Values.{permitted_of}
 use Rattle.rating.specs.Rate.{rate_of}
-use Rattle.rating.specs.Exact.{exact_rise, permitted_of}
+use Rattle.rating.specs.Exact.{exact_rise}
 use Rattle.rating.proofs.Laws.Answers.{cable}
 use Rattle.rating.proofs.Laws.Instances.{answer, chosen, chosen_allowed}
 use Rattle.book_laws.specs.Bytes.{number_bytes, number_at, words_at, stands}

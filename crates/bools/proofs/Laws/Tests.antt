@@ -16,6 +16,10 @@ pub neither : (a b : Bool) → a || b ≡ false → (a ≡ false) × (b ≡ fals
 neither true b e = absurd (true≢false e)
 neither false b e = (refl, e)
 
+pub other_of : (a b : Bool) → a || b ≡ true → a ≡ false → b ≡ true
+other_of true b e not-a = absurd (true≢false not-a)
+other_of false b e not-a = e
+
 -- what holds of a test in either outcome, given that outcome, holds of it
 pub by_outcome : (P : Bool → Type 0) (t : Bool) → (t ≡ true → P true) → (t ≡ false → P false) → P t
 by_outcome P true if-true if-false = if-true refl

@@ -3,8 +3,9 @@
 use Rattle.std.specs.Prelude.{List, [], ◌∷◌, ◌++◌, ◌≡◌, refl, ℕ, replicate}
 use Rattle.std.proofs.Common.{sym, ap, ◌∙◌, suc-ne-zero, lit≤}
 use Rattle.exact.specs.Fraction.{whole, ◌≤F◌, ◌<F◌}
+use Rattle.rating.specs.Values.{permitted_of}
 use Rattle.rating.specs.Rate.{Answer, rate_of}
-use Rattle.rating.specs.Exact.{exact_rise, permitted_of}
+use Rattle.rating.specs.Exact.{exact_rise}
 use Rattle.rating.proofs.Laws.Answers.{cable, aluminium, answered}
 use Rattle.rating.proofs.Laws.Instances.{chosen, chosen_allowed}
 use Rattle.rating.specs.Laws.Logarithms.{lowest}

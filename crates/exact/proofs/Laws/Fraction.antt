@@ -1,7 +1,7 @@
 -- The laws of fractions: their orders, that sums, products and reciprocals keep them, and that up(a/b) and down(a/b) lie within 1
 -- of a/b. Assumes nothing.
 use Rattle.std.specs.Prelude.{Bool, true, false, ◌&&◌, ◌≡◌, refl, ℕ, ◌+◌, ◌*◌, ◌≤◌, ◌<◌, T, leb, ltb}
-use Rattle.std.proofs.Common.{sym, ap₂, mul-le-mul, le_refl, le_of_lt, le_of_eq, mul-le-mul_right, mul-lt-mul_of_pos_right, mul-pos}
+use Rattle.std.proofs.Common.{sym, ap, ap₂, mul-le-mul, le_refl, le_of_lt, le_of_eq, mul-le-mul_right, mul-lt-mul_of_pos_right, mul-pos}
 use Rattle.std.proofs.Common.{le_of_mul-le-mul_right, lt_of_mul-lt-mul_right, arith, lit<, lit≤}
 use Rattle.exact.specs.Rounding.{up, down}
 use Rattle.exact.specs.Fraction.{Fraction, ◌over◌, whole, ◌+F◌, ◌*F◌, reciprocal, ◌≤F◌, ◌<F◌, ◌≃F◌}
@@ -150,6 +150,16 @@ unfolding ◌+F◌ ◌*F◌
       left = mul-pos dx (mul-pos dy dz);
       right = mul-pos (mul-pos dx dy) (mul-pos dx dz);
       across = omega arith;
+    }
+
+-- equal parts of a sum
+pub +F-≃F : (x : Fraction) {y z : Fraction} → 0 < x.den → y ≃F z → x +F y ≃F x +F z
+unfolding ◌+F◌
++F-≃F x dx p =
+    record {
+      left = mul-pos dx p.left;
+      right = mul-pos dx p.right;
+      across = omega (arith, ap (λ k. k * (x.den * x.den)) p.across);
     }
 
 -- Whole numbers among the fractions.

@@ -4,12 +4,12 @@ use Rattle.std.proofs.Common.{lit<, lit≤}
 use Rattle.exact.specs.Rounding.{up, down}
 use Rattle.exact.proofs.Laws.Rounding.{up_above, up_close, up_only, down_close, down_only, up_least, down_most, up_least_below}
 use Rattle.exact.proofs.Laws.Rounding.{down_most_above, up_mono, down_mono, up_exact, down_exact, up_rest, down_rest, down_le_up}
-use Rattle.exact.proofs.Laws.Rounding.{up_le_suc_down, up_pos, up_up}
+use Rattle.exact.proofs.Laws.Rounding.{up_le_suc_down, up_pos, up_up, up_scaled}
 use Rattle.exact.specs.Root.{IsRoot}
 use Rattle.exact.proofs.Laws.Root.{root_only, square_cancel_<}
 use Rattle.exact.specs.Fraction.{◌over◌, whole, ◌+F◌, ◌*F◌, ◌/F◌, reciprocal, ◌≤F◌, ◌<F◌, ◌≃F◌}
 use Rattle.exact.proofs.Laws.Fraction.{closed≤, ≃F_refl, ≤F_refl, ≤F_trans, <F-≤F_trans, ≤F-<F_trans, <F→≤F, ≃F→≤F, ≃F_sym, +F_mono}
-use Rattle.exact.proofs.Laws.Fraction.{+F_mono_<, *F_mono, *F_mono_<, reciprocal_anti, *F-+F, over≤up, up<over, down≤over, over<down}
+use Rattle.exact.proofs.Laws.Fraction.{+F_mono_<, *F_mono, *F_mono_<, reciprocal_anti, *F-+F, +F-≃F, over≤up, up<over, down≤over, over<down}
 use Rattle.exact.proofs.Laws.Fraction.{whole_mono}
 use Rattle.exact.specs.Error.{parts, Within}
 use Rattle.exact.proofs.Laws.Error.{within_refl, within_weaken, within_trans, within_absorb, within_sum, within_times, within_product}
@@ -35,10 +35,10 @@ seven_thirds_down : (7 < down 7 3 * 3 + 3) × (down 7 3 ≡ 2) × (2 ≤ down 7 
 seven_thirds_down =
     (down_close 7 (lit< tt), down_only 7 3 2 (lit≤ tt) (lit< tt), down_most 7 2 (lit< tt) (lit≤ tt), down_rest 2 {r = 1} {b = 3} (lit< tt))
 
--- 7/3 ≤ 5/2, and (20/3)/2 = 20/6
+-- 7/3 ≤ 5/2, (20/3)/2 = 20/6, and 14/6 = 7/3
 rounding_orders :
     (up 7 3 ≤ up 5 2) × (down 7 3 ≤ down 5 2) × (up (2 * 3) 3 ≡ 2) × (down (2 * 3) 3 ≡ 2) × (down 7 3 ≤ up 7 3) × (up 7 3 ≤ down 7 3 + 1)
-    × (up (up 20 3) 2 ≡ up 20 (3 * 2))
+    × (up (up 20 3) 2 ≡ up 20 (3 * 2)) × (up (2 * 7) (2 * 3) ≡ up 7 3)
 rounding_orders = (
   up_mono 7 5 (lit< tt) (lit< tt) (lit≤ tt),
   down_mono 7 5 (lit< tt) (lit< tt) (lit≤ tt),
@@ -47,6 +47,7 @@ rounding_orders = (
   down_le_up 7 (lit< tt),
   up_le_suc_down 7 (lit< tt),
   up_up 20 (lit< tt) (lit< tt),
+  up_scaled 2 7 {b = 3} (lit< tt) (lit< tt),
 )
 
 ten_root : IsRoot 10 3
@@ -78,6 +79,7 @@ operations :
     × ((1 over 3) *F (1 over 3) ≤F (1 over 2) *F (1 over 2)) × ((1 over 3) *F (1 over 2) <F (1 over 2) *F (1 over 2))
     × (reciprocal (1 over 2) ≤F reciprocal (1 over 3))
     × ((1 over 2) *F ((1 over 3) +F (1 over 3)) ≃F (1 over 2) *F (1 over 3) +F (1 over 2) *F (1 over 3))
+    × ((1 over 3) +F (1 over 2) ≃F (1 over 3) +F (2 over 4))
 operations = (
   +F_mono third≤half third≤half,
   +F_mono_< third<half third≤half,
@@ -85,6 +87,7 @@ operations = (
   *F_mono_< third<half (lit< tt) (lit< tt),
   reciprocal_anti (lit< tt) third≤half,
   *F-+F (1 over 2) (1 over 3) (1 over 3) (lit< tt) (lit< tt) (lit< tt),
+  +F-≃F (1 over 3) (lit< tt) half≃,
 )
 
 rounded_fractions :

@@ -3,7 +3,7 @@
 use Rattle.std.specs.Prelude.{◌≡◌, refl, ℕ, ◌+◌, ◌-◌, ◌*◌, ◌/◌, ◌≤◌, ◌<◌}
 use Rattle.std.proofs.Common.{sym, le_refl, le_trans, mul-le-mul_right, lt_of_mul-lt-mul_right, le_of_mul-le-mul_right, div-mul-le_self}
 use Rattle.std.proofs.Common.{arith}
-use Rattle.std.proofs.Math.Nat.{div-eq_of_lt-le, lt-div-mul-add, div-div-eq-div-mul}
+use Rattle.std.proofs.Math.Nat.{div-eq_of_lt-le, lt-div-mul-add, div-div-eq-div-mul, mul-le-mul_left, mul-lt-mul_of_pos_left}
 use Rattle.exact.specs.Rounding.{up, down}
 
 -- How code computes them.
@@ -100,6 +100,13 @@ up_up x {a} {b} a>0 b>0 =
     let above : up x a * a ≤ up (up x a) b * b * a = mul-le-mul_right a (up_above (up x a) b>0) in
     let close : (up (up x a) b * b + 1) * a ≤ (up x a + b) * a = mul-le-mul_right a (omega (arith, up_close (up x a) b>0)) in
     sym (up_only x (a * b) (up (up x a) b) (omega (arith, up_above x a>0)) (omega (arith, up_close x a>0)))
+
+-- what multiplies both is left out
+pub up_scaled : (k a : ℕ) {b : ℕ} → 0 < k → 0 < b → up (k * a) (k * b) ≡ up a b
+up_scaled k a {b} k>0 b>0 =
+    let above : k * a ≤ k * (up a b * b) = mul-le-mul_left k (up_above a b>0) in
+    let close : k * (up a b * b) < k * (a + b) = mul-lt-mul_of_pos_left (up_close a b>0) k>0 in
+    up_only (k * a) (k * b) (up a b) (omega arith) (omega arith)
 
 pub down_down : (x a b : ℕ) → down (down x a) b ≡ down x (a * b)
 unfolding down

@@ -12,6 +12,7 @@ use Rattle.formulas.specs.Constants.{tera, IsPi}
 use Rattle.formulas.specs.Logarithm.{log_low, log_high, IsLog}
 use Rattle.formulas.specs.Reactance.{reactance, reactance*}
 use Rattle.formulas.specs.Dielectric.{dielectric_loss, dielectric_resistance, dielectric_rise, dielectric_loss*, dielectric_rise*}
+use Rattle.formulas.specs.Laws.Bounds.{most_t4}
 use Rattle.formulas.specs.Laws.Ranges.{In}
 use Rattle.formulas.proofs.Laws.Ranges.{dielectric_resistance_most}
 use Rattle.formulas.proofs.Laws.LogRange.{tera>0, log_low_least}
@@ -48,22 +49,22 @@ loss_close e u0 t {π} {log} {f} {di} {ds} pi range p ds>0 far near =
     within_weaken (lit≤ tt) (closed≤ tt)
     (within_trans (within_same (≃F_refl _ quotient.below.left) same quotient) (within_up (k * reactance f) (omega arith)))
 
--- the factor is at most 1/8, so that a unit of the loss is less than one of the rise
+-- the factor is at most 1/2, so that a unit of the loss is less than one of the rise
 pub dielectric_close :
-    {n wd t1 t2 t3 t4 : ℕ} {wd* : Fraction} → n ≤ 3 → t1 ≤ 10000000 → t2 ≤ 10000000 → t3 ≤ 10000000 → t4 ≤ 20000000 →
+    {n wd t1 t2 t3 t4 : ℕ} {wd* : Fraction} → n ≤ 3 → t1 ≤ 10000000 → t2 ≤ 10000000 → t3 ≤ 10000000 → t4 ≤ most_t4 →
     Within 2200 (whole 1) wd* (whole wd) →
     Within 2200 (whole 2) (dielectric_rise* n wd* t1 t2 t3 t4) (whole (dielectric_rise n wd t1 t2 t3 t4))
 unfolding dielectric_rise dielectric_rise* ◌+F◌ ◌*F◌ reciprocal
 dielectric_close {n} {wd} {t1} {t2} {t3} {t4} {wd*} n≤ t1≤ t2≤ t3≤ t4≤ p =
     let k = dielectric_resistance n t1 t2 t3 t4 in
-    let eighth : whole k *F reciprocal (whole (2 * 10 ^ 9)) ≤F 1 over 8 =
+    let half : whole k *F reciprocal (whole (2 * 10 ^ 12)) ≤F 1 over 2 =
     record { left = lit< tt; right = lit< tt; across = omega (arith, dielectric_resistance_most n≤ t1≤ t2≤ t3≤ t4≤) }
     in
-    let scaled = within_times eighth p in
-    let lower : wd* *F (whole k *F reciprocal (whole (2 * 10 ^ 9))) ≃F wd* *F whole k *F reciprocal (whole (2 * 10 ^ 9)) =
+    let scaled = within_times half p in
+    let lower : wd* *F (whole k *F reciprocal (whole (2 * 10 ^ 12))) ≃F wd* *F whole k *F reciprocal (whole (2 * 10 ^ 12)) =
     record { left = scaled.below.left; right = omega (arith, scaled.below.left); across = omega arith }
     in
-    let upper : whole wd *F (whole k *F reciprocal (whole (2 * 10 ^ 9))) ≃F wd * k over 2 * 10 ^ 9 =
+    let upper : whole wd *F (whole k *F reciprocal (whole (2 * 10 ^ 12))) ≃F wd * k over 2 * 10 ^ 12 =
     record { left = lit< tt; right = lit< tt; across = omega arith }
     in
     within_weaken (lit≤ tt) (closed≤ tt)

@@ -206,10 +206,10 @@ common_second = common_close 1853 is_pi frequency (lit≤ tt) (lit< tt) (lit≤ 
 -- dd and E
 
 abbrev dd : ℕ
-dd = dielectric_rise 3 (dielectric_loss 350 19000 1000 (reactance 5000) (log_low 3600 1750)) 350000 40000 60000 450000
+dd = dielectric_rise 3 (dielectric_loss 350 19000 1000 (reactance 5000) (log_low 3600 1750)) 350000 40000 60000 450000000
 
 abbrev dd* : Fraction
-dd* = dielectric_rise* 3 (dielectric_loss* 350 19000 1000 (reactance* π 5000) chosen_log_insulation) 350000 40000 60000 450000
+dd* = dielectric_rise* 3 (dielectric_loss* 350 19000 1000 (reactance* π 5000) chosen_log_insulation) 350000 40000 60000 450000000
 
 dd_close : Within 2200 (whole 2) dd* (whole dd)
 dd_close =
@@ -217,10 +217,10 @@ dd_close =
     (loss_close 350 19000 1000 is_pi frequency is_log_insulation (lit< tt) (lit≤ tt) (lit< tt))
 
 abbrev e : ℕ
-e = unit_rise 3 r (sl_loss X rs) w 350000 40000 60000 450000
+e = unit_rise 3 r (sl_loss X rs) w 350000 40000 60000 450000000
 
 abbrev e* : Fraction
-e* = unit_rise* 3 r* (sl_loss* X* rs) w* 350000 40000 60000 450000
+e* = unit_rise* 3 r* (sl_loss* X* rs) w* 350000 40000 60000 450000000
 
 r_least : least_conductor_resistance ≤ r
 unfolding ac_resistance skin_factor factor skin_ratio_squared skin_ratio skin_reactance proximity_factor proximity_g proximity_h
@@ -233,7 +233,7 @@ e_close =
     (within_weaken (lit≤ tt) (whole_mono (lit≤ tt)) r_close)
     (within_weaken (lit≤ tt) (whole_mono (lit≤ tt)) s_close)
     (within_weaken (lit≤ tt) (whole_mono (lit≤ tt)) w_close)
-    r_least 3 350000 40000 60000 450000 (lit< tt) (lit≤ tt) (lit≤ tt)
+    r_least 3 350000 40000 60000 450000000 (lit< tt) (lit≤ tt) (lit≤ tt)
 
 dd_share : 10 * dd ≤ 9 * 70000000000
 unfolding dielectric_rise dielectric_resistance dielectric_loss reactance log_low thirteen_terms series first_power doubled octaves

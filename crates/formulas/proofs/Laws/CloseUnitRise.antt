@@ -14,23 +14,23 @@ use Rattle.exact.specs.Trillion.{trillion}
 use Rattle.formulas.specs.Rating.{unit_rise, unit_rise*}
 use Rattle.formulas.specs.Laws.Bounds.{least_conductor_resistance, least_unit_rise}
 
--- the rise across one thermal resistance t
+-- the rise across one thermal resistance t, of which u are 1 K·m/W
 part_close :
-    {q : ℕ} {x* : Fraction} (x t : ℕ) → Within q (whole 0) x* (whole x) →
-    Within q (whole 1) (x* *F whole t /F whole (10 ^ 6)) (whole (up (x * t) (10 ^ 6)))
+    {q : ℕ} {x* : Fraction} (x t u : ℕ) → 0 < u → Within q (whole 0) x* (whole x) →
+    Within q (whole 1) (x* *F whole t /F whole u) (whole (up (x * t) u))
 unfolding ◌*F◌ ◌+F◌ reciprocal
-part_close {q} {x*} x t p =
+part_close {q} {x*} x t u u>0 p =
     let through : Within q (whole 0) (x* *F whole t) (whole x *F whole t) =
     rw (*F_comm x* (whole t), *F_comm (whole x) (whole t)) (within_scale (whole t) (lit< tt) p)
     in
-    let divided : Within q (whole 0) (x* *F whole t /F whole (10 ^ 6)) (whole x *F whole t /F whole (10 ^ 6)) =
-    rw (*F_comm (x* *F whole t) (reciprocal (whole (10 ^ 6))), *F_comm (whole x *F whole t) (reciprocal (whole (10 ^ 6))))
-    (within_scale (reciprocal (whole (10 ^ 6))) (lit< tt) through)
+    let divided : Within q (whole 0) (x* *F whole t /F whole u) (whole x *F whole t /F whole u) =
+    rw (*F_comm (x* *F whole t) (reciprocal (whole u)), *F_comm (whole x *F whole t) (reciprocal (whole u)))
+    (within_scale (reciprocal (whole u)) u>0 through)
     in
-    let exact : Within q (whole 0) (x* *F whole t /F whole (10 ^ 6)) (x * t over 10 ^ 6) =
-    within_same (≃F_refl _ divided.below.left) (record { left = lit< tt; right = lit< tt; across = omega arith }) divided
+    let exact : Within q (whole 0) (x* *F whole t /F whole u) (x * t over u) =
+    within_same (≃F_refl _ divided.below.left) (record { left = omega arith; right = u>0; across = omega arith }) divided
     in
-    within_weaken (omega arith) (closed≤ tt) (within_trans exact (within_up (x * t) (lit< tt)))
+    within_weaken (omega arith) (closed≤ tt) (within_trans exact (within_up (x * t) u>0))
 
 -- sums and multiples of whole numbers, with whole errors
 
@@ -60,19 +60,20 @@ module _
   all_three = absorb_close 110000 (omega arith) (sum_close (sum_close r_close s_close) w_close)
 
   pub unit_rise_close :
-      (n t1 t2 t3 t4 : ℕ) → 0 < n → 1000 ≤ t1 → 10000 ≤ t4 →
+      (n t1 t2 t3 t4 : ℕ) → 0 < n → 1000 ≤ t1 → 10000000 ≤ t4 →
       Within 160000 (whole 0) (unit_rise* n r* s* w* t1 t2 t3 t4) (whole (unit_rise n r s w t1 t2 t3 t4))
   unfolding unit_rise unit_rise*
   unit_rise_close n t1 t2 t3 t4 n>0 t1≥ t4≥ =
       let one≤one = ≤F_refl (whole 1) (lit< tt) in
-      let first = within_weaken (lit≤ {m = 40000} {n = 150000} tt) one≤one (part_close r t1 r_close) in
+      let first = within_weaken (lit≤ {m = 40000} {n = 150000} tt) one≤one (part_close r t1 (10 ^ 6) (lit< tt) r_close) in
       let second =
-      within_weaken (lit≤ {m = 95000} {n = 150000} tt) one≤one (part_close (n * (r + s)) t2 (times_close n conductor_sheath))
+      within_weaken (lit≤ {m = 95000} {n = 150000} tt) one≤one
+      (part_close (n * (r + s)) t2 (10 ^ 6) (lit< tt) (times_close n conductor_sheath))
       in
-      let third = part_close (n * (r + s + w)) (t3 + t4) (times_close n all_three) in
+      let third = part_close (n * (r + s + w)) (1000 * t3 + t4) (10 ^ 9) (lit< tt) (times_close n all_three) in
       let inner : least_unit_rise ≤ up (r * t1) (10 ^ 6) = up_least_below _ _ (lit< tt) (omega (arith, mul-le-mul r≥ t1≥)) in
       let losses : least_conductor_resistance ≤ n * (r + s + w) = omega (arith, mul-le-mul_right (r + s + w) n>0) in
-      let outer : 365000000 ≤ up (n * (r + s + w) * (t3 + t4)) (10 ^ 6) =
-      up_least_below _ _ (lit< tt) (omega (arith, mul-le-mul losses (le_trans t4≥ (le-add_left t4 t3))))
+      let outer : 365000000 ≤ up (n * (r + s + w) * (1000 * t3 + t4)) (10 ^ 9) =
+      up_least_below _ _ (lit< tt) (omega (arith, mul-le-mul losses (le_trans t4≥ (le-add_left t4 (1000 * t3)))))
       in
       absorb_close 10000 (omega arith) (sum_close (sum_close first second) third)

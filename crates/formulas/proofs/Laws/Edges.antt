@@ -1,6 +1,6 @@
 -- The starred values at the edges of docs/CLAIMS.md, as one theorem; as another the edges of refusals 8 and 11 that the stars leave out:
--- where kp decides, and the largest rating; and as a third those of arrangement 6. Each is computed from the definition or the table that
--- the rating uses. Assumes nothing.
+-- where kp decides, and the largest rating; as a third those of arrangement 6; and as a fourth those of dry soil. Each is computed from
+-- the definition or the table that the rating uses. Assumes nothing.
 use Rattle.std.specs.Prelude.{◌≡◌, refl, Bool, true, false, ℕ, ◌*◌, pos, neg_ℤ}
 use Rattle.exact.specs.Rounding.{up, down}
 use Rattle.exact.specs.Root.{root}
@@ -22,7 +22,9 @@ use Rattle.formulas.specs.CommonSheath.{
   second_formula,
   common_loss,
 }
-use Rattle.formulas.specs.Rating.{rating}
+use Rattle.formulas.specs.Soil.{soil_ratio, soil_resistance, permitted_rise}
+use Rattle.formulas.specs.Dielectric.{dielectric_resistance, dielectric_rise, current_rise}
+use Rattle.formulas.specs.Rating.{unit_rise, rating}
 use Rattle.formulas.specs.Refusals.{skin_refused, eddy_refused, dielectric_refused, current_refused}
 
 -- refusal 8 of a conductor code at a frequency and an R'
@@ -44,15 +46,15 @@ pub record Starred : Type 0 where
   pub gets_8 : skin_refused_at 5000 1 160285339469 ≡ true
   pub passes_9 : eddy_refused (reactance 5000) 3141592653600 ≡ false
   pub gets_9 : eddy_refused (reactance 5000) 3141592653599 ≡ true
-  pub passes_10 : dielectric_refused 45000000000 5000 ≡ false
-  pub gets_10 : dielectric_refused 45000000001 5000 ≡ true
+  pub passes_10 : dielectric_refused 45000000000 (permitted_rise 0 5000 0) ≡ false
+  pub gets_10 : dielectric_refused 45000000001 (permitted_rise 0 5000 0) ≡ true
   pub I : rating 50000000000 500000000000 ≡ 1000000
   pub I_less : rating 49999999999 500000000000 ≡ 999999
 
 pub starred : Starred
 unfolding up down root conductor_metal tera pi_low pi_high ln2_low ln2_high temperature_factor resistance reactance reactance_low
     skin_reactance skin_ratio factor spacing_ratio octaves doubled first_power thirteen_terms log_low log_high bond_ratio
-    bond_ratio_squared circulating_loss rating skin_refused eddy_refused dielectric_refused
+    bond_ratio_squared circulating_loss rating skin_refused eddy_refused dielectric_refused soil_ratio permitted_rise
 starred =
     record {
       B = refl;
@@ -141,4 +143,57 @@ common_sheath_starred =
       S_at_limit = refl;
       S_above_limit = refl;
       S_least = refl;
+    }
+
+-- Dry soil: ρ as it counts; T4 and the permitted rise with a ρ of none, 1000, 2500 and 5000, and the isotherm at θa, between and at θc; E
+-- and dd with a ρ T4 of 10011001, where T4 rounded before would be 10012 or 10011; and refusal 10 with what dry soil adds to the permitted
+-- rise.
+pub record DrySoilStarred : Type 0 where
+  pub ratio_none : soil_ratio 0 ≡ 1000
+  pub ratio_one : soil_ratio 1000 ≡ 1000
+  pub ratio_most : soil_ratio 5000 ≡ 5000
+  pub T4_none : soil_resistance 0 10001 ≡ 10001000
+  pub T4_one : soil_resistance 1000 10001 ≡ 10001000
+  pub T4_more : soil_resistance 1001 10001 ≡ 10011001
+  pub T4_most : soil_resistance 5000 20000000 ≡ 100000000000
+  pub P_none : permitted_rise 0 7000 1500 ≡ 70000000000
+  pub P_one : permitted_rise 1000 7000 1500 ≡ 70000000000
+  pub P_between : permitted_rise 2500 7000 1500 ≡ 92500000000
+  pub P_at_ambient : permitted_rise 5000 7000 0 ≡ 70000000000
+  pub P_at_conductor : permitted_rise 5000 7000 7000 ≡ 350000000000
+  pub P_most : permitted_rise 5000 29000 29000 ≡ 1450000000000
+  pub E : unit_rise 1 1000000000000 0 0 1000 0 0 (soil_resistance 1001 10001) ≡ 11011001000
+  pub E_rounded_once : unit_rise 1 99885 0 0 1000 0 0 (soil_resistance 1001 10001) ≡ 1100
+  pub dd : dielectric_rise 1 1000000000000 1000 0 0 (soil_resistance 1001 10001) ≡ 10511001
+  pub dd_rounded_once : dielectric_rise 1 1000000000000 0 0 0 (soil_resistance 1001 1) ≡ 1001
+  pub N : current_rise (permitted_rise 2500 7000 1500) 10511001 ≡ 92489488999
+  pub passes_10_dry : dielectric_refused 83250000000 (permitted_rise 2500 7000 1500) ≡ false
+  pub gets_10_dry : dielectric_refused 83250000001 (permitted_rise 2500 7000 1500) ≡ true
+  pub gets_10_moist : dielectric_refused 83250000000 (permitted_rise 0 7000 1500) ≡ true
+
+pub dry_soil_starred : DrySoilStarred
+unfolding up soil_ratio soil_resistance permitted_rise unit_rise dielectric_resistance dielectric_rise current_rise dielectric_refused
+dry_soil_starred =
+    record {
+      ratio_none = refl;
+      ratio_one = refl;
+      ratio_most = refl;
+      T4_none = refl;
+      T4_one = refl;
+      T4_more = refl;
+      T4_most = refl;
+      P_none = refl;
+      P_one = refl;
+      P_between = refl;
+      P_at_ambient = refl;
+      P_at_conductor = refl;
+      P_most = refl;
+      E = refl;
+      E_rounded_once = refl;
+      dd = refl;
+      dd_rounded_once = refl;
+      N = refl;
+      passes_10_dry = refl;
+      gets_10_dry = refl;
+      gets_10_moist = refl;
     }

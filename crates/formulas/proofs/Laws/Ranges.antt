@@ -1,7 +1,8 @@
 -- How large the stages' numbers get within the limits of the fields: what the code of the stages needs so that each product and
 -- quotient fits. Each bound is proved from bounds on what goes in. Assumes nothing.
 use Rattle.std.specs.Prelude.{◌≡◌, Bool, true, false, cond, ℕ, ◌+◌, ◌*◌, ◌≤◌, ◌<◌, eqb, ℤ, pos, neg_ℤ, ◌≤ℤ◌}
-use Rattle.std.proofs.Common.{le_trans, add-le-add, mul-le-mul, mul-le-mul_right, mul-pos, arith, lit<, lit≤, leb-true, leb-false}
+use Rattle.std.proofs.Common.{le_trans, add-le-add, mul-le-mul, mul-le-mul_left, mul-le-mul_right, mul-pos, arith, lit<, lit≤}
+use Rattle.std.proofs.Common.{leb-true, leb-false}
 use Rattle.bools.proofs.Laws.Tests.{by_outcome}
 use Rattle.exact.specs.Rounding.{up, down}
 use Rattle.exact.proofs.Laws.Rounding.{up_least, up_least_below, down_most_above}
@@ -68,6 +69,7 @@ use Rattle.formulas.specs.Laws.Bounds.{
   most_dielectric_loss,
   most_dielectric_resistance,
   most_dielectric_rise,
+  most_t4,
   least_unit_rise,
   most_unit_rise,
 }
@@ -311,15 +313,15 @@ pub dielectric_loss_most :
 dielectric_loss_most k≤ b≤ l≥ = up_least _ _ (omega arith) (omega (arith, mul-le-mul k≤ b≤))
 
 pub dielectric_resistance_most :
-    {n t1 t2 t3 t4 : ℕ} → n ≤ 3 → t1 ≤ 10000000 → t2 ≤ 10000000 → t3 ≤ 10000000 → t4 ≤ 20000000 →
+    {n t1 t2 t3 t4 : ℕ} → n ≤ 3 → t1 ≤ 10000000 → t2 ≤ 10000000 → t3 ≤ 10000000 → t4 ≤ most_t4 →
     dielectric_resistance n t1 t2 t3 t4 ≤ most_dielectric_resistance
 unfolding dielectric_resistance
 dielectric_resistance_most {n} {t2 = t2} {t3} {t4} n≤ t1≤ t2≤ t3≤ t4≤ =
-    let outer≤ : t2 + t3 + t4 ≤ 40000000 = omega arith in
+    let outer≤ : 1000 * (t2 + t3) + t4 ≤ 120000000000 = omega arith in
     omega (arith, mul-le-mul n≤ outer≤)
 
 pub dielectric_rise_most :
-    {n wd t1 t2 t3 t4 : ℕ} → n ≤ 3 → wd ≤ most_dielectric_loss → t1 ≤ 10000000 → t2 ≤ 10000000 → t3 ≤ 10000000 → t4 ≤ 20000000 →
+    {n wd t1 t2 t3 t4 : ℕ} → n ≤ 3 → wd ≤ most_dielectric_loss → t1 ≤ 10000000 → t2 ≤ 10000000 → t3 ≤ 10000000 → t4 ≤ most_t4 →
     dielectric_rise n wd t1 t2 t3 t4 ≤ most_dielectric_rise
 unfolding dielectric_rise
 dielectric_rise_most n≤ wd≤ t1≤ t2≤ t3≤ t4≤ =
@@ -336,13 +338,13 @@ unit_rise_least n s w t2 t3 t4 {r} {t1} r≥ t1≥ =
 
 pub unit_rise_most :
     {n r s w t1 t2 t3 t4 : ℕ} → n ≤ 3 → r ≤ most_ac_resistance → s ≤ most_sheath_loss → w ≤ most_armour_loss → t1 ≤ 10000000 →
-    t2 ≤ 10000000 → t3 ≤ 10000000 → t4 ≤ 20000000 → unit_rise n r s w t1 t2 t3 t4 ≤ most_unit_rise
+    t2 ≤ 10000000 → t3 ≤ 10000000 → t4 ≤ most_t4 → unit_rise n r s w t1 t2 t3 t4 ≤ most_unit_rise
 unfolding unit_rise
 unit_rise_most n≤ r≤ s≤ w≤ t1≤ t2≤ t3≤ t4≤ =
     let first = up_least _ 7880000000000000 {b = 1000000} (lit< tt) (mul-le-mul r≤ t1≤) in
     let second = up_least _ 41955000000000000 {b = 1000000} (lit< tt) (mul-le-mul (mul-le-mul n≤ (add-le-add r≤ s≤)) t2≤) in
     let third =
-    up_least _ 170919900000000000 {b = 1000000} (lit< tt)
-    (mul-le-mul (mul-le-mul n≤ (add-le-add (add-le-add r≤ s≤) w≤)) (add-le-add t3≤ t4≤))
+    up_least _ 626706300000000000 {b = 1000000000} (lit< tt)
+    (mul-le-mul (mul-le-mul n≤ (add-le-add (add-le-add r≤ s≤) w≤)) (add-le-add (mul-le-mul_left 1000 t3≤) t4≤))
     in
     le_trans (add-le-add (add-le-add first second) third) (lit≤ tt)

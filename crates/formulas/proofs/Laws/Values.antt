@@ -43,7 +43,8 @@ use Rattle.formulas.specs.Armour.{
   screened_loss,
   armour_loss,
 }
-use Rattle.formulas.specs.Dielectric.{dielectric_loss, dielectric_resistance, dielectric_rise, permitted_rise, current_rise}
+use Rattle.formulas.specs.Soil.{soil_ratio, soil_resistance, permitted_rise}
+use Rattle.formulas.specs.Dielectric.{dielectric_loss, dielectric_resistance, dielectric_rise, current_rise}
 use Rattle.formulas.specs.Rating.{unit_rise, rating}
 
 pub record Recomputed : Type 0 where
@@ -109,10 +110,10 @@ pub record Recomputed : Type 0 where
   pub log_insulation_low : log_low 3600 1750 ≡ 721318057524
   pub log_insulation_high : log_high 3600 1750 ≡ 721318057540
   pub Wd : dielectric_loss 350 19000 1000 628318530720 721318057524 ≡ 305721378649
-  pub dd : dielectric_rise 3 305721378649 350000 40000 60000 450000 ≡ 557941517
-  pub N : current_rise 7000 557941517 ≡ 69442058483
+  pub dd : dielectric_rise 3 305721378649 350000 40000 60000 (soil_resistance 0 450000) ≡ 557941517
+  pub N : current_rise (permitted_rise 0 7000 0) 557941517 ≡ 69442058483
   -- stage 10
-  pub E : unit_rise 3 1563786096662 28056057354 97764071631 350000 40000 60000 450000 ≡ 3323443717554
+  pub E : unit_rise 3 1563786096662 28056057354 97764071631 350000 40000 60000 (soil_resistance 0 450000) ≡ 3323443717554
   pub I : rating 69442058483 3323443717554 ≡ 457106
 
 pub recomputed : Recomputed
@@ -122,7 +123,7 @@ unfolding up down root conductor_metal tera pi_low pi_high ln2_low ln2_high ln2_
     bond_ratio bond_ratio_squared circulating_loss three_halves sl_loss eddy_ratio eddy_ratio_squared eddy_factor eddy_spacing eddy_loss
     axis_ratio axis_ratio_squared common_ratio common_ratio_squared is_first first_formula second_formula common_loss armour_ratio
     armour_ratio_squared reduced_armour_resistance unscreened_loss screening_ratio_squared screened_loss armour_loss dielectric_loss
-    dielectric_resistance dielectric_rise permitted_rise current_rise unit_rise rating
+    soil_ratio soil_resistance dielectric_resistance dielectric_rise permitted_rise current_rise unit_rise rating
 recomputed =
     record {
       alpha_rows = refl;

@@ -56,8 +56,9 @@ most_t2 = 10000000
 abbrev pub most_t3 : ℕ
 most_t3 = 10000000
 
+-- T4 with what dry soil adds, in 10^-9 K·m/W: 20000000 at a ρ of 5000
 abbrev pub most_t4 : ℕ
-most_t4 = 20000000
+most_t4 = 100000000000
 
 -- n and j in any arrangement
 abbrev pub most_cores : ℕ
@@ -216,31 +217,25 @@ most_armour_loss = 500610000000000
 abbrev pub most_dielectric_loss : ℕ
 most_dielectric_loss = 33500000000000000
 
--- twice the thermal resistance that it meets, with three cores
+-- twice the thermal resistance that it meets, with three cores, in 10^-9 K·m/W
 abbrev pub most_dielectric_resistance : ℕ
-most_dielectric_resistance = 250000000
+most_dielectric_resistance = 730000000000
 
 abbrev pub most_dielectric_rise : ℕ
-most_dielectric_rise = 4187500000000000
+most_dielectric_rise = 12227500000000000
 
--- N: a conductor at 250 °C in an ambient of -40 °C
-abbrev pub most_current_rise : ℕ
-most_current_rise = 290000000000
+-- the permitted rise, and so N: a conductor at 250 °C in an ambient of -40 °C, with a ρ of 5000 and the isotherm at 250 °C
+abbrev pub most_permitted_rise : ℕ
+most_permitted_rise = 1450000000000
 
 -- Stage 10: E from the least R and T1 alone, and from the largest of everything.
 
--- a part of E, the rise across one thermal resistance: R, S and W of three cores and a little more, T3 with T4, and their product
-abbrev pub most_part_loss : ℕ
-most_part_loss = 6000000000000000
-
-abbrev pub most_part_resistance : ℕ
-most_part_resistance = 30000000
-
+-- a part of E, the rise across one thermal resistance: R, S and W of three cores at T3 with T4
 abbrev pub most_part_rise : ℕ
-most_part_rise = 180000000000000000
+most_part_rise = 627000000000000000
 
 abbrev pub least_unit_rise : ℕ
 least_unit_rise = 36500000
 
 abbrev pub most_unit_rise : ℕ
-most_unit_rise = 221000000000000000
+most_unit_rise = 677000000000000000

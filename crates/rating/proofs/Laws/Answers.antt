@@ -1,9 +1,11 @@
--- The whole answer, number, rating and sheet, to one case of each arrangement, to one that is refused, and to a low-voltage cable whose
--- dielectric loss does not count and then does, computed from the definitions alone. The cases stand in the files of
--- examples/. A definition that gives them another number in any place is refused here. Assumes nothing.
+-- The whole answer, number, rating and sheet, to one case of each arrangement, to one that is refused, to a low-voltage cable whose
+-- dielectric loss does not count and then does, and to a cable in soil that dries out, rated and refused, computed from the definitions
+-- alone. The cases but the last stand in the files of examples/. A definition that gives them another number in any place is refused
+-- here. Assumes nothing.
 use Rattle.std.specs.Prelude.{◌≡◌, List, [], ◌∷◌, ℕ, set}
 use Rattle.exact.specs.Rounding.{up, down}
 use Rattle.exact.specs.Root.{root}
+use Rattle.bools.specs.First.{or_refused}
 use Rattle.formulas.specs.Tables.{conductor_metal}
 use Rattle.formulas.specs.Resistance.{temperature_factor, resistance}
 use Rattle.formulas.specs.Reactance.{reactance, reactance_low}
@@ -41,12 +43,32 @@ use Rattle.formulas.specs.Armour.{
   screened_loss,
   armour_loss,
 }
-use Rattle.formulas.specs.Dielectric.{dielectric_loss, dielectric_resistance, dielectric_rise, permitted_rise, current_rise}
+use Rattle.formulas.specs.Soil.{soil_ratio, soil_resistance, permitted_rise}
+use Rattle.formulas.specs.Dielectric.{dielectric_loss, dielectric_resistance, dielectric_rise, current_rise}
 use Rattle.formulas.specs.Rating.{unit_rise, rating}
 use Rattle.formulas.specs.Refusals.{skin_refused, eddy_refused, dielectric_refused, current_refused}
 use Rattle.formulas.specs.Constants.{tera, pi_low, pi_high, ln2_low, ln2_high, ln2_third_high}
 use Rattle.formulas.specs.Logarithm.{doublings, octaves, doubled, series, first_power, thirteen_terms, log_low, log_high}
-use Rattle.rating.specs.Values.{R', Rs, RA, B, zs, zp, ys, G, yp, R, X, XLow, loss_counts, Wd, rise_of}
+use Rattle.rating.specs.Values.{
+  R',
+  Rs,
+  RA,
+  B,
+  zs,
+  zp,
+  ys,
+  G,
+  yp,
+  R,
+  X,
+  XLow,
+  loss_counts,
+  Wd,
+  rise_of,
+  isotherm_rise_of,
+  soil_T4,
+  permitted_of,
+}
 use Rattle.rating.specs.Arrangement.{axis_limits, no_armour, armourless, alternating}
 use Rattle.rating.specs.BothEnds.{both_ends}
 use Rattle.rating.specs.OnePoint.{one_point}
@@ -54,19 +76,21 @@ use Rattle.rating.specs.SlType.{armour_limits, sl_type}
 use Rattle.rating.specs.CommonSheath.{common_sheath}
 use Rattle.rating.specs.Arrangements.{arrangement_of}
 use Rattle.rating.specs.FieldRefusals.{
-  arrangement_refused,
   conductor_refused,
   limit_refused,
   conductor_limits,
   sheath_limits,
   thermal_limits,
+  moist,
   further_limits,
+  isotherm_unused,
   unassigned,
   stray_refused,
   geometry_refused,
   heat_refused,
+  isotherm_refused,
   metal_refused,
-  field_refusal,
+  field_refusals,
 }
 use Rattle.rating.specs.Stage10.{N, E, current_of}
 use Rattle.rating.specs.Rate.{refused, sheet_of, rated, loaded, judged, rate_of, rate_of_is}
@@ -128,6 +152,15 @@ low_voltage =
 -- the same where every voltage counts, by which its rating is 0.144 A smaller
 abbrev pub low_voltage_counted : List ℕ
 low_voltage_counted = set low_voltage 26 0
+
+-- the cable of arrangement 6 in soil that dries out within the isotherm of 35 °C, where it has 2.5 times the resistivity of moist soil; its
+-- rating is 23 per cent smaller by that
+abbrev pub dry_soil : List ℕ
+dry_soil = set (set three_cores 27 2500) 28 3500
+
+-- the same with an isotherm 0.01 K below the ambient temperature, which refusal 31 refuses
+abbrev pub cold_isotherm : List ℕ
+cold_isotherm = set dry_soil 28 1999
 
 pub record Answered : Type 0 where
   pub both_ends_1 :
@@ -211,6 +244,16 @@ pub record Answered : Type 0 where
             2309245000000 ∷ 4508782200000 ∷ 0 ∷ 628318530720 ∷ 1540433462 ∷ 2743783662 ∷ 2319138306973 ∷ 0 ∷ 16486548705 ∷ 0
             ∷ 20474700041 ∷ 51104852 ∷ 6347816285383 ∷ [];
       }
+  -- of the sheet only dd and E differ from those of moist soil
+  pub dry_soil_6 :
+      rate_of dry_soil
+      ≡ record {
+        number = 0;
+        rating = 360793;
+        sheet =
+            961425400000 ∷ 4420859576800 ∷ 0 ∷ 628318530720 ∷ 8835005445 ∷ 12722773647 ∷ 982151596387 ∷ 0 ∷ 18029939377 ∷ 0 ∷ 56650693262
+            ∷ 389701479 ∷ 7076046850490 ∷ [];
+      }
   pub refused_7 :
       rate_of aluminium
       ≡ record {
@@ -219,19 +262,28 @@ pub record Answered : Type 0 where
         sheet =
             0 ∷ 0 ∷ 0 ∷ 0 ∷ 0 ∷ 0 ∷ 0 ∷ 0 ∷ 0 ∷ 0 ∷ 0 ∷ 0 ∷ 0 ∷ [];
       }
+  pub refused_31 :
+      rate_of cold_isotherm
+      ≡ record {
+        number = 31;
+        rating = 0;
+        sheet =
+            0 ∷ 0 ∷ 0 ∷ 0 ∷ 0 ∷ 0 ∷ 0 ∷ 0 ∷ 0 ∷ 0 ∷ 0 ∷ 0 ∷ 0 ∷ [];
+      }
 
 pub answered : Answered
-unfolding rated sheet_of refused loaded judged field_refusal arrangement_refused conductor_refused limit_refused conductor_limits
-    sheath_limits thermal_limits further_limits unassigned stray_refused geometry_refused heat_refused metal_refused arrangement_of sl_type
-    armour_limits alternating skin_refused eddy_refused dielectric_refused current_refused R' Rs RA B zs zp ys G yp R X XLow loss_counts Wd
-    rise_of N E current_of conductor_metal temperature_factor resistance reactance reactance_low skin_reactance skin_ratio
-    skin_ratio_squared factor skin_factor spacing_ratio proximity_h proximity_g proximity_factor ac_resistance log_low log_high
-    thirteen_terms series first_power doubled octaves doublings spacing_log_high spacing_log_low sheath_reactance sheath_reactance_low
-    bond_ratio bond_ratio_squared circulating_loss three_halves sl_loss armour_ratio armour_ratio_squared reduced_armour_resistance
-    unscreened_loss screening_ratio_squared screened_loss armour_loss dielectric_loss dielectric_resistance dielectric_rise permitted_rise
-    current_rise unit_rise rating root pi_low pi_high ln2_low ln2_high ln2_third_high tera up down axis_limits no_armour armourless
-    both_ends one_point eddy_ratio eddy_ratio_squared eddy_factor eddy_spacing eddy_loss common_sheath axis_ratio axis_ratio_squared
-    common_ratio common_ratio_squared is_first first_formula second_formula common_loss
+unfolding rated sheet_of refused loaded judged or_refused field_refusals conductor_refused limit_refused conductor_limits sheath_limits
+    thermal_limits moist further_limits isotherm_unused unassigned stray_refused geometry_refused heat_refused isotherm_refused
+    metal_refused arrangement_of sl_type soil_ratio soil_resistance isotherm_rise_of soil_T4 permitted_of armour_limits alternating
+    skin_refused eddy_refused dielectric_refused current_refused R' Rs RA B zs zp ys G yp R X XLow loss_counts Wd rise_of N E current_of
+    conductor_metal temperature_factor resistance reactance reactance_low skin_reactance skin_ratio skin_ratio_squared factor skin_factor
+    spacing_ratio proximity_h proximity_g proximity_factor ac_resistance log_low log_high thirteen_terms series first_power doubled
+    octaves doublings spacing_log_high spacing_log_low sheath_reactance sheath_reactance_low bond_ratio bond_ratio_squared
+    circulating_loss three_halves sl_loss armour_ratio armour_ratio_squared reduced_armour_resistance unscreened_loss
+    screening_ratio_squared screened_loss armour_loss dielectric_loss dielectric_resistance dielectric_rise permitted_rise current_rise
+    unit_rise rating root pi_low pi_high ln2_low ln2_high ln2_third_high tera up down axis_limits no_armour armourless both_ends one_point
+    eddy_ratio eddy_ratio_squared eddy_factor eddy_spacing eddy_loss common_sheath axis_ratio axis_ratio_squared common_ratio
+    common_ratio_squared is_first first_formula second_formula common_loss
 answered =
     record {
       both_ends_1 = rate_of_is trefoil;
@@ -243,5 +295,7 @@ answered =
       common_sheath_6_first = rate_of_is three_cores_aluminium;
       low_voltage_6 = rate_of_is low_voltage;
       low_voltage_6_counted = rate_of_is low_voltage_counted;
+      dry_soil_6 = rate_of_is dry_soil;
       refused_7 = rate_of_is aluminium;
+      refused_31 = rate_of_is cold_isotherm;
     }

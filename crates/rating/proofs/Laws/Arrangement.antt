@@ -15,7 +15,7 @@ use Rattle.rating.specs.Chosen.{Chosen}
 use Rattle.rating.specs.Arrangement.{Numbers, Numbers*, Arrangement, alternating, alternating*}
 use Rattle.rating.specs.Allowed.{Allowed}
 use Rattle.rating.specs.Laws.Fit.{Fit}
-use Rattle.rating.proofs.Laws.Ranges.{R_range, Wd_most}
+use Rattle.rating.proofs.Laws.Ranges.{R_range, Wd_most, soil_T4_range}
 use Rattle.rating.proofs.Laws.Close.{R_close, dd_close}
 
 pub record InRange (ν : Numbers) : Type 0 where
@@ -61,7 +61,7 @@ module _
         R = R_range fine fit.skin fit.proximity spaced;
         S = s≤;
         W = w≤;
-        dd = dielectric_rise_most n-in.most (Wd_most fine) fine.t1.most fine.t2.most fine.t3.most fine.t4.most;
+        dd = dielectric_rise_most n-in.most (Wd_most fine) fine.t1.most fine.t2.most fine.t3.most (soil_T4_range fine).most;
       }
 
   pub alternating_close :

@@ -14,12 +14,12 @@ use Rattle.formulas.proofs.Laws.CloseSpacing.{sheath_reactance_close}
 use Rattle.formulas.proofs.Laws.CloseSpacingLow.{sheath_reactance_low_close}
 use Rattle.formulas.proofs.Laws.CloseDielectric.{loss_close, dielectric_close}
 use Rattle.fields.specs.Fields as Field
-use Rattle.rating.specs.Values.{B, zs, zp, ys, G, yp, R, X, XLow, Wd, loss_counts}
+use Rattle.rating.specs.Values.{B, zs, zp, ys, G, yp, R, X, XLow, Wd, loss_counts, soil_T4}
 use Rattle.rating.specs.Chosen.{Chosen, B*, R*, X*, Wd*}
 use Rattle.rating.specs.Arrangement.{Arrangement}
 use Rattle.rating.specs.Allowed.{Allowed}
 use Rattle.rating.specs.Laws.Sound.{Sound}
-use Rattle.rating.proofs.Laws.Ranges.{R'_range, insulation_ratio, spacing_ratio_below}
+use Rattle.rating.proofs.Laws.Ranges.{R'_range, insulation_ratio, spacing_ratio_below, soil_T4_range}
 
 module _ {a : Arrangement} {x : List ℕ} {c : Chosen} (allowed : Allowed a x c) (fine : Sound x) where
   pub R_close :
@@ -46,11 +46,11 @@ module _ {a : Arrangement} {x : List ℕ} {c : Chosen} (allowed : Allowed a x c)
   pub dd_close :
       {n : ℕ} → n ≤ 3 →
       Within 2500 (whole 2)
-      (dielectric_rise* n (Wd* x c) (Field.t1 x) (Field.t2 x) (Field.t3 x) (Field.t4 x))
-      (whole (dielectric_rise n (Wd x) (Field.t1 x) (Field.t2 x) (Field.t3 x) (Field.t4 x)))
+      (dielectric_rise* n (Wd* x c) (Field.t1 x) (Field.t2 x) (Field.t3 x) (soil_T4 x))
+      (whole (dielectric_rise n (Wd x) (Field.t1 x) (Field.t2 x) (Field.t3 x) (soil_T4 x)))
   dd_close n≤ =
       within_weaken (lit≤ tt) (≤F_refl (whole 2) (lit< tt))
-      (dielectric_close n≤ fine.t1.most fine.t2.most fine.t3.most fine.t4.most Wd_close)
+      (dielectric_close n≤ fine.t1.most fine.t2.most fine.t3.most (soil_T4_range fine).most Wd_close)
 
   -- where X is one of the arrangement's values and the sheaths do not overlap
   module _ (reactive : a.reactive ≡ true) (apart : Field.sheath_diameter x ≤ Field.spacing x) where

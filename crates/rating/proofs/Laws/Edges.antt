@@ -1,13 +1,15 @@
 -- The tests of the fields at the edges of an arrangement's own limits and relations, of the voltage from which the dielectric loss counts
--- and of the unassigned fields, each at equality and one beyond, and the first of two refusals where both are given. A definition that
+-- and of the unassigned field, each at equality and one beyond, and the first of two refusals where both are given. A definition that
 -- moves an edge is refused here. Assumes nothing.
 use Rattle.std.specs.Prelude.{◌≡◌, refl, true, false, List, [], ◌∷◌, map, ℕ, set}
 use Rattle.exact.specs.Rounding.{up, down}
 use Rattle.formulas.specs.Constants.{tera, pi_high, ln2_low}
+use Rattle.bools.specs.First.{or_refused}
 use Rattle.formulas.specs.Reactance.{reactance}
 use Rattle.formulas.specs.Logarithm.{doublings, octaves, doubled, series, first_power, thirteen_terms, log_low}
+use Rattle.formulas.specs.Soil.{soil_ratio, soil_resistance}
 use Rattle.formulas.specs.Dielectric.{dielectric_loss, dielectric_resistance, dielectric_rise}
-use Rattle.rating.specs.Values.{B, loss_counts, Wd}
+use Rattle.rating.specs.Values.{B, loss_counts, Wd, soil_T4}
 use Rattle.rating.specs.Arrangement.{axis_limits, no_armour, armourless, alternating}
 use Rattle.rating.specs.BothEnds.{both_ends}
 use Rattle.rating.specs.OnePoint.{one_point}
@@ -22,22 +24,30 @@ use Rattle.rating.specs.FieldRefusals.{
   conductor_limits,
   sheath_limits,
   thermal_limits,
+  moist,
   further_limits,
+  isotherm_unused,
   unassigned,
   stray_refused,
   geometry_refused,
   heat_refused,
+  isotherm_refused,
   metal_refused,
+  field_refusals,
   field_refusal,
 }
 use Rattle.rating.proofs.Laws.Answers.{trefoil, flat, trefoil_one_point, flat_one_point, cable, three_cores}
 
--- the cable of arrangement 6, which no refusal refuses, with one field or two set anew
+-- a cable of each arrangement, which no refusal refuses
+abbrev pub each : List (List ℕ)
+each = trefoil ∷ flat ∷ trefoil_one_point ∷ flat_one_point ∷ cable ∷ three_cores ∷ []
 
-abbrev having : (field word : ℕ) → List ℕ
+-- that of arrangement 6, with one field or two set anew
+
+abbrev pub having : (field word : ℕ) → List ℕ
 having field word = set three_cores field word
 
-abbrev having_both : (field word field' word' : ℕ) → List ℕ
+abbrev pub having_both : (field word field' word' : ℕ) → List ℕ
 having_both field word field' word' = set (having field word) field' word'
 
 pub record CommonSheathEdges : Type 0 where
@@ -72,9 +82,9 @@ pub record CommonSheathEdges : Type 0 where
   pub geometry_before_heat : field_refusal (having_both 20 3689 16 9001) ≡ 5
 
 pub common_sheath_edges : CommonSheathEdges
-unfolding field_refusal arrangement_refused conductor_refused limit_refused conductor_limits sheath_limits thermal_limits further_limits
-    unassigned stray_refused geometry_refused heat_refused metal_refused arrangement_of no_arrangement both_ends common_sheath axis_limits
-    no_armour armourless
+unfolding or_refused field_refusals conductor_refused limit_refused conductor_limits sheath_limits thermal_limits moist further_limits
+    isotherm_unused unassigned stray_refused geometry_refused heat_refused isotherm_refused metal_refused arrangement_of no_arrangement
+    both_ends common_sheath axis_limits no_armour armourless
 common_sheath_edges =
     record {
       six_passes_1 = refl;
@@ -120,37 +130,35 @@ pub record LossVoltageEdges : Type 0 where
   -- and so for a U0 of 0
   pub no_voltage_from_0 : loss_counts (having_both 26 0 10 0) ≡ true
   pub no_voltage_from_1 : loss_counts (having_both 26 1 10 0) ≡ false
-  -- 4 and not 3: the unassigned fields, whatever stands there, in each arrangement
-  pub unassigned_gets_4 : map (λ field. field_refusal (having field 1)) (27 ∷ 28 ∷ 29 ∷ []) ≡ 4 ∷ 4 ∷ 4 ∷ []
-  pub unassigned_most_gets_4 : map (λ field. field_refusal (having field 4294967295)) (27 ∷ 28 ∷ 29 ∷ []) ≡ 4 ∷ 4 ∷ 4 ∷ []
-  pub unassigned_passes_3 : map (λ field. limit_refused (having field 4294967295)) (27 ∷ 28 ∷ 29 ∷ []) ≡ false ∷ false ∷ false ∷ []
-  pub unassigned_in_each :
-      map (λ x. field_refusal (set x 29 1)) (trefoil ∷ flat ∷ trefoil_one_point ∷ flat_one_point ∷ cable ∷ three_cores ∷ [])
-      ≡ 4 ∷ 4 ∷ 4 ∷ 4 ∷ 4 ∷ 4 ∷ []
+  -- 4 and not 3: field 29, whatever stands there, in each arrangement
+  pub unassigned_gets_4 : map (λ word. field_refusal (having 29 word)) (1 ∷ 4294967295 ∷ []) ≡ 4 ∷ 4 ∷ []
+  pub unassigned_passes_3 : map (λ word. limit_refused (having 29 word)) (1 ∷ 4294967295 ∷ []) ≡ false ∷ false ∷ []
+  pub unassigned_in_each : map (λ x. field_refusal (set x 29 1)) each ≡ 4 ∷ 4 ∷ 4 ∷ 4 ∷ 4 ∷ 4 ∷ []
   -- of two the earlier: field 26 by 3
   pub arrangement_before_limit : field_refusal (having_both 26 300001 0 7) ≡ 1
   pub conductor_before_limit : field_refusal (having_both 26 300001 1 9) ≡ 2
-  pub limit_before_unassigned : field_refusal (having_both 26 300001 27 1) ≡ 3
+  pub limit_before_unassigned : field_refusal (having_both 26 300001 29 1) ≡ 3
   pub limit_before_stray : field_refusal (having_both 26 300001 17 1) ≡ 3
   pub limit_before_geometry : field_refusal (having_both 26 300001 7 1849) ≡ 3
   pub limit_before_heat : field_refusal (having_both 26 300001 16 9001) ≡ 3
   -- and the unassigned ones by 4
-  pub arrangement_before_unassigned : field_refusal (having_both 27 1 0 7) ≡ 1
-  pub conductor_before_unassigned : field_refusal (having_both 27 1 1 9) ≡ 2
-  pub axis_limit_before_unassigned : field_refusal (having_both 27 1 20 99) ≡ 3
-  pub unassigned_and_stray : field_refusal (having_both 27 1 17 1) ≡ 4
-  pub unassigned_before_geometry : field_refusal (having_both 27 1 7 1849) ≡ 4
-  pub unassigned_before_heat : field_refusal (having_both 27 1 16 9001) ≡ 4
+  pub arrangement_before_unassigned : field_refusal (having_both 29 1 0 7) ≡ 1
+  pub conductor_before_unassigned : field_refusal (having_both 29 1 1 9) ≡ 2
+  pub axis_limit_before_unassigned : field_refusal (having_both 29 1 20 99) ≡ 3
+  pub unassigned_and_stray : field_refusal (having_both 29 1 17 1) ≡ 4
+  pub unassigned_before_geometry : field_refusal (having_both 29 1 7 1849) ≡ 4
+  pub unassigned_before_heat : field_refusal (having_both 29 1 16 9001) ≡ 4
   pub metal_alone : field_refusal (set trefoil_one_point 14 2) ≡ 7
   pub limit_before_metal : field_refusal (set (set trefoil_one_point 14 2) 26 300001) ≡ 3
-  pub unassigned_before_metal : field_refusal (set (set trefoil_one_point 14 2) 27 1) ≡ 4
-  pub two_unassigned : field_refusal (having_both 27 1 29 4294967295) ≡ 4
+  pub unassigned_before_metal : field_refusal (set (set trefoil_one_point 14 2) 29 1) ≡ 4
+  pub two_unassigned : field_refusal (having_both 28 1 29 4294967295) ≡ 4
 
 pub loss_voltage_edges : LossVoltageEdges
-unfolding field_refusal arrangement_refused conductor_refused limit_refused conductor_limits sheath_limits thermal_limits further_limits
-    unassigned stray_refused geometry_refused heat_refused metal_refused arrangement_of no_arrangement both_ends one_point sl_type
-    armour_limits common_sheath axis_limits no_armour armourless loss_counts Wd B alternating dielectric_loss dielectric_resistance
-    dielectric_rise reactance log_low thirteen_terms series first_power doubled octaves doublings pi_high ln2_low tera up down
+unfolding or_refused field_refusals conductor_refused limit_refused conductor_limits sheath_limits thermal_limits moist further_limits
+    isotherm_unused unassigned stray_refused geometry_refused heat_refused isotherm_refused metal_refused arrangement_of no_arrangement
+    both_ends one_point sl_type armour_limits common_sheath axis_limits no_armour armourless loss_counts Wd B soil_T4 soil_ratio
+    soil_resistance alternating dielectric_loss dielectric_resistance dielectric_rise reactance log_low thirteen_terms series first_power
+    doubled octaves doublings pi_high ln2_low tera up down
 loss_voltage_edges =
     record {
       least_loss_voltage = refl;
@@ -168,7 +176,6 @@ loss_voltage_edges =
       no_voltage_from_0 = refl;
       no_voltage_from_1 = refl;
       unassigned_gets_4 = refl;
-      unassigned_most_gets_4 = refl;
       unassigned_passes_3 = refl;
       unassigned_in_each = refl;
       arrangement_before_limit = refl;

@@ -1,28 +1,50 @@
 -- Demand 3 on a case of arrangement 5, a three-core SL type of 124 microhm/m at 19 kV which rates 457.106 A, with fractions chosen for pi,
--- ln 2 and the two logarithms; and on cases of arrangements 3 and 6, which have one logarithm alone, one of them without dielectric loss.
--- So the premises of the theorems are met. Assumes nothing.
-use Rattle.std.specs.Prelude.{◌≡◌, refl, false, List, take, ℕ, ◌+◌, ◌*◌, ◌^◌}
-use Rattle.std.proofs.Common.{sym, ap, subst, ◌∙◌, lit<, true≢false}
+-- ln 2 and the two logarithms; and on cases of arrangements 3 and 6, which have one logarithm alone, one of them without dielectric loss
+-- and one in soil that dries out. So the premises of the theorems are met. Assumes nothing.
+use Rattle.std.specs.Prelude.{◌≡◌, refl, false, List, take, set, ℕ, ◌+◌, ◌*◌, ◌^◌}
+use Rattle.std.proofs.Common.{sym, ap, subst, ◌∙◌, lit<, suc-ne-zero, true≢false}
 use Rattle.exact.specs.Rounding.{up, down}
-use Rattle.exact.specs.Fraction.{Fraction, ◌over◌, whole, ◌≤F◌, ◌<F◌}
+use Rattle.exact.specs.Fraction.{Fraction, ◌over◌, whole, ◌+F◌, ◌*F◌, reciprocal, ◌≤F◌, ◌<F◌}
 use Rattle.exact.proofs.Laws.Fraction.{closed≤}
-use Rattle.formulas.specs.Dielectric.{permitted_rise}
+use Rattle.formulas.specs.Tables.{conductor_metal}
+use Rattle.formulas.specs.Resistance.{temperature_factor, resistance}
+use Rattle.formulas.specs.Reactance.{reactance*}
+use Rattle.formulas.specs.Skin.{skin_reactance*, skin_ratio*, factor*, skin_factor*}
+use Rattle.formulas.specs.Proximity.{spacing_ratio*, proximity_h*, proximity_g*, proximity_factor*, ac_resistance*}
+use Rattle.formulas.specs.CommonSheath.{is_first, axis_ratio*, common_ratio*, first_formula*, second_formula*, common_loss*}
+use Rattle.formulas.specs.Dielectric.{dielectric_resistance, dielectric_loss*, dielectric_rise*}
+use Rattle.formulas.specs.Rating.{unit_rise*, rise*}
+use Rattle.formulas.specs.Soil.{soil_ratio, soil_resistance, permitted_rise}
+use Rattle.formulas.proofs.Laws.Soil.{none_counts, one_counts}
 use Rattle.formulas.specs.Constants.{tera, pi_low, pi_high, ln2_low, ln2_high}
 use Rattle.formulas.specs.Logarithm.{doublings, octaves, doubled, series, first_power, thirteen_terms, log_low, log_high, IsLog}
 use Rattle.fields.specs.Fields as Field
-use Rattle.rating.specs.Values.{rise_of}
-use Rattle.rating.specs.Chosen.{Chosen}
+use Rattle.rating.specs.Values.{R', Rs, loss_counts, rise_of, isotherm_rise_of, soil_T4, permitted_of}
+use Rattle.rating.specs.Chosen.{Chosen, B*, R*, Wd*}
+use Rattle.rating.specs.Arrangement.{alternating, alternating*}
 use Rattle.rating.specs.OnePoint.{one_point}
 use Rattle.rating.specs.CommonSheath.{common_sheath}
 use Rattle.rating.specs.Arrangements.{arrangement_of, own}
 use Rattle.rating.specs.Allowed.{Allowed}
 use Rattle.rating.specs.Rate.{Answer, rated, rate_of}
-use Rattle.rating.specs.Exact.{exact_rise, permitted_of}
-use Rattle.rating.proofs.Laws.LossVoltage.{Counted, counted, Older, older, Uncounted, uncounted}
+use Rattle.rating.specs.Exact.{exact_rise, E*}
+use Rattle.rating.proofs.Laws.LossVoltage.{Counted, counted, Uncounted, uncounted}
+use Rattle.rating.proofs.Laws.Older.{Older, older}
+use Rattle.rating.proofs.Laws.Moist.{AsMoist, AsMoist*, as_moist, as_moist*}
+use Rattle.rating.proofs.Laws.DrySoil.{Dries, dries}
 use Rattle.rating.proofs.Laws.Logarithms.{Promised, promised}
 use Rattle.rating.proofs.Laws.Passed.{all_passed, rated_stages}
-use Rattle.rating.proofs.Laws.Margin.{safe, close, nearer}
-use Rattle.rating.proofs.Laws.Answers.{trefoil, trefoil_one_point, cable, three_cores, low_voltage, low_voltage_counted, answered}
+use Rattle.rating.proofs.Laws.Margin.{fit, safe, close, nearer}
+use Rattle.rating.proofs.Laws.Answers.{
+  trefoil,
+  trefoil_one_point,
+  cable,
+  three_cores,
+  low_voltage,
+  low_voltage_counted,
+  dry_soil,
+  answered,
+}
 
 abbrev pub chosen : Chosen
 chosen =
@@ -69,7 +91,7 @@ module _
   over_at = subst (λ i. whole (permitted_of x) <F exact_rise x c (whole (i + 2))) answer_is.1 (close x c allowed answer_is.0)
 
 permitted : permitted_of cable ≡ 70000000000
-unfolding permitted_of permitted_rise rise_of
+unfolding permitted_of permitted_rise soil_ratio rise_of isotherm_rise_of
 permitted = refl
 
 under : exact_rise cable chosen (whole 457106) ≤F whole 70000000000
@@ -118,10 +140,13 @@ under_3 = under_at allowed_3 answer_3
 abbrev pub chosen_6 : Chosen
 chosen_6 = without_spacing (443644018850 over 10 ^ 12)
 
+three_cores_log : IsLog 3070 1970 (443644018850 over 10 ^ 12)
+unfolding log_low log_high thirteen_terms series first_power doubled octaves doublings ln2_low ln2_high tera up down
+three_cores_log = record { at_least = closed≤ tt; at_most = closed≤ tt }
+
 pub allowed_6 : Allowed (own three_cores) three_cores chosen_6
-unfolding arrangement_of common_sheath log_low log_high thirteen_terms series first_power doubled octaves doublings ln2_low ln2_high tera
-    up down
-allowed_6 = without_spacing_allowed three_cores _ refl (record { at_least = closed≤ tt; at_most = closed≤ tt })
+unfolding arrangement_of common_sheath
+allowed_6 = without_spacing_allowed three_cores _ refl three_cores_log
 
 pub answer_6 : ((rate_of three_cores).number ≡ 0) × ((rate_of three_cores).rating ≡ 469955)
 answer_6 = number_and_rating _ answered.common_sheath_6
@@ -177,3 +202,46 @@ under_counted = under_at allowed_counted answer_counted
 
 over_counted : whole (permitted_of low_voltage_counted) <F exact_rise low_voltage_counted chosen_low_voltage (whole (280511 + 2))
 over_counted = over_at allowed_counted answer_counted
+
+-- the cable of arrangement 6 in soil that stays moist, by a ρ of 0 and by one of 1000
+
+moist_soil : AsMoist three_cores
+moist_soil = as_moist three_cores none_counts
+
+moist_soil* : AsMoist* three_cores chosen_6
+moist_soil* = as_moist* three_cores none_counts allowed_6 (fit (all_passed three_cores answer_6.0))
+
+dry_as_moist : AsMoist (set dry_soil 27 1000)
+dry_as_moist = as_moist (set dry_soil 27 1000) one_counts
+
+-- and in soil that dries out, which permits 70 K and 1.5 times the 15 K by which the isotherm is above the ambient temperature
+
+pub allowed_dry : Allowed (own dry_soil) dry_soil chosen_6
+unfolding arrangement_of common_sheath
+allowed_dry = without_spacing_allowed dry_soil _ refl three_cores_log
+
+pub answer_dry : ((rate_of dry_soil).number ≡ 0) × ((rate_of dry_soil).rating ≡ 360793)
+answer_dry = number_and_rating _ answered.dry_soil_6
+
+soil_dries : Dries dry_soil
+soil_dries = dries dry_soil (all_passed dry_soil answer_dry.0).fields (suc-ne-zero 2499)
+
+permitted_dry : permitted_of dry_soil ≡ 92500000000
+unfolding permitted_of permitted_rise soil_ratio rise_of isotherm_rise_of
+permitted_dry = refl
+
+under_dry : exact_rise dry_soil chosen_6 (whole 360793) ≤F whole 92500000000
+under_dry = rw (← permitted_dry) (under_at allowed_dry answer_dry)
+
+over_dry : whole 92500000000 <F exact_rise dry_soil chosen_6 (whole (360793 + 2))
+over_dry = rw (← permitted_dry) (over_at allowed_dry answer_dry)
+
+-- the same by computing the exact rise itself, with none of the theorems; at 1 mA more it is not below
+worked_dry :
+    (exact_rise dry_soil chosen_6 (whole 360793) ≤F whole 92500000000)
+    × (whole 92500000000 ≤F exact_rise dry_soil chosen_6 (whole 360794))
+unfolding exact_rise rise* E* unit_rise* common_sheath arrangement_of alternating alternating* B* R* Wd* R' Rs soil_T4 loss_counts
+    ac_resistance* skin_factor* factor* skin_ratio* skin_reactance* proximity_factor* spacing_ratio* proximity_g* proximity_h* common_loss*
+    axis_ratio* common_ratio* first_formula* second_formula* is_first reactance* dielectric_loss* dielectric_rise* dielectric_resistance
+    soil_resistance soil_ratio resistance temperature_factor conductor_metal ◌+F◌ ◌*F◌ reciprocal
+worked_dry = (closed≤ tt, closed≤ tt)

@@ -1,29 +1,29 @@
 -- Demand 3 for a case: whichever fractions stand for pi, ln 2 and the logarithms, the exact rise at the rating is at most the permitted
 -- rise, and at 2 mA more, or 1 mA and a ten-millionth of the rating, it is above. The premise is that the case is rated. Assumes nothing.
 use Rattle.std.proofs.Common.{ltb-false}
-use Rattle.std.specs.Prelude.{◌≡◌, List, ℕ, ◌+◌, ◌*◌, ◌^◌, ◌≤◌, ◌<◌}
+use Rattle.std.specs.Prelude.{◌≡◌, List, ℕ, ◌+◌, ◌*◌, ◌≤◌, ◌<◌}
 use Rattle.std.proofs.Common.{lt_of_not-le, mul-le-mul, arith}
 use Rattle.bools.proofs.Laws.Tests.{neither, not_both}
 use Rattle.exact.specs.Fraction.{◌over◌, whole, ◌≤F◌, ◌<F◌}
 use Rattle.formulas.specs.Refusals.{skin_refused, eddy_refused, dielectric_refused, current_refused}
-use Rattle.formulas.specs.Dielectric.{permitted_rise, current_rise}
+use Rattle.formulas.specs.Dielectric.{current_rise}
 use Rattle.formulas.proofs.Laws.Current.{rating_largest}
 use Rattle.formulas.specs.Laws.CloseRise.{Stage10}
 use Rattle.formulas.proofs.Laws.CloseRise as Law
-use Rattle.rating.specs.Values.{rise_of}
+use Rattle.rating.specs.Values.{permitted_of}
 use Rattle.rating.specs.Chosen.{Chosen}
 use Rattle.rating.specs.Arrangements.{own}
 use Rattle.rating.specs.Allowed.{Allowed}
 use Rattle.rating.specs.Stage10.{numbers_of, N, E, current_of}
 use Rattle.rating.specs.Rate.{rated, rate_of}
-use Rattle.rating.specs.Exact.{numbers_of*, E*, exact_rise, permitted_of}
+use Rattle.rating.specs.Exact.{numbers_of*, E*, exact_rise}
 use Rattle.rating.proofs.Laws.Sound.{sound}
-use Rattle.rating.proofs.Laws.Rise.{rise_range}
+use Rattle.rating.proofs.Laws.Ranges.{permitted_range}
 use Rattle.rating.specs.Laws.Fit.{Fit}
 use Rattle.rating.proofs.Laws.Passed.{Passed, all_passed}
 use Rattle.rating.proofs.Laws.Stage10.{E_range, dd_close, E_close}
 
-fit : {x : List ℕ} → Passed x → Fit (own x) x
+pub fit : {x : List ℕ} → Passed x → Fit (own x) x
 unfolding skin_refused eddy_refused
 fit {x} p =
     let fine = sound x p.fields in
@@ -40,23 +40,23 @@ fit {x} p =
 
 module _ {x : List ℕ} {c : Chosen} (allowed : Allowed (own x) x c) (p : Passed x) where
   share : 10 * (numbers_of x).dd ≤ 9 * permitted_of x
-  unfolding dielectric_refused permitted_of permitted_rise
-  share = omega (arith, ltb-false (9 * 10 ^ 7 * rise_of x) (10 * (numbers_of x).dd) p.dielectric)
+  unfolding dielectric_refused
+  share = ltb-false (9 * permitted_of x) (10 * (numbers_of x).dd) p.dielectric
 
   rated_at : Stage10 (E* x c) (numbers_of* x c).dd (E x) (numbers_of x).dd (N x) (permitted_of x) (current_of x)
-  unfolding current_refused current_of N current_rise permitted_of permitted_rise rise_of
+  unfolding current_refused current_of N current_rise
   rated_at =
       record {
         e_close = E_close (fit p) allowed;
         dd_close = dd_close (fit p) allowed;
         left = omega (arith, share);
         shares = share;
-        warm = omega (arith, (rise_range (fit p).sound).least);
+        warm = (permitted_range (fit p).sound).least;
         rating = rating_largest _ (omega (arith, E_range (fit p)));
         most = ltb-false _ _ p.current;
       }
 
-  -- E is at most 2.21 × 10^17 and N at least half a kelvin, so no rating is below 14 mA
+  -- E is at most 6.77 × 10^17 and N at least half a kelvin, so no rating is below 14 mA
   current_least : 14 ≤ current_of x
   current_least =
       let n≥ = Law.n_least rated_at in

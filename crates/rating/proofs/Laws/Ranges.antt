@@ -1,6 +1,6 @@
 -- The range of each value of a case that does not depend on the arrangement alone: what the stages' code requires of it, from the
 -- limits of the fields. Assumes nothing.
-use Rattle.std.specs.Prelude.{◌≡◌, List, ℕ, ◌*◌, ◌≤◌, ◌<◌, ℤ, pos, negsuc, neg_ℤ, ◌≤ℤ◌}
+use Rattle.std.specs.Prelude.{◌≡◌, List, ℕ, ◌*◌, ◌≤◌, ◌<◌}
 use Rattle.std.proofs.Common.{le_trans, mul-le-mul, arith, lit≤}
 use Rattle.bools.proofs.Laws.Tests.{either}
 use Rattle.formulas.specs.Refusals.{skin_limit}
@@ -14,12 +14,14 @@ use Rattle.formulas.specs.Laws.Bounds.{
   most_ac_resistance,
   most_dielectric_loss,
   most_log,
+  most_permitted_rise,
   most_proximity_factor,
   most_reactance,
   most_resistance,
   most_sheath_reactance,
   most_skin_factor,
   most_spacing_log,
+  most_t4,
 }
 use Rattle.formulas.specs.Tables.{conductor_metal}
 use Rattle.formulas.specs.Skin.{skin_factor}
@@ -32,15 +34,13 @@ use Rattle.formulas.proofs.Laws.LogRange.{log_low_most, log_low_least}
 use Rattle.formulas.proofs.Laws.CloseSpacing.{sheath_reactance_least, spacing_log_high_least}
 use Rattle.formulas.proofs.Laws.CloseSpacingLow.{sheath_reactance_low_least}
 use Rattle.formulas.proofs.Laws.Ranges as Law
+use Rattle.formulas.proofs.Laws.Soil.{soil_resistance_range, permitted_rise_range}
 use Rattle.formulas.specs.Laws.Ranges.{In}
 use Rattle.stages.specs.Laws.Ranges.{ThermalRanges, CirculatingRanges}
 use Rattle.fields.specs.Fields as Field
-use Rattle.rating.specs.Values.{R', Rs, B, zs, zp, ys, G, yp, R, X, XLow, Wd, loss_counts}
+use Rattle.rating.specs.Values.{R', Rs, B, zs, zp, ys, G, yp, R, X, XLow, Wd, loss_counts, rise_of, soil_T4, permitted_of}
 use Rattle.rating.specs.Laws.Sound.{Sound}
-
-pub above_cold : (θ : ℤ) → pos 4000 ≤ℤ θ → neg_ℤ (pos 4000) ≤ℤ θ
-above_cold (pos n) h = record { le = tt }
-above_cold (negsuc n) h = absurd h.le
+use Rattle.rating.proofs.Laws.Rise.{above_cold, rise_range, isotherm_rise_most}
 
 module _ {x : List ℕ} (fine : Sound x) where
   pub R'_range : In least_conductor_resistance most_resistance (R' x)
@@ -88,15 +88,27 @@ module _ {x : List ℕ} (fine : Sound x) where
       (Law.dielectric_loss_most loss_product B_range.most insulation_log_range.least)
       (lit≤ tt)
 
+  -- T4 and the permitted rise, with what dry soil adds
+
+  pub soil_T4_range : In 10000000 most_t4 (soil_T4 x)
+  unfolding soil_T4
+  soil_T4_range = soil_resistance_range (Field.dry_ratio x) fine.ratio fine.t4
+
+  pub permitted_range : In 5000000000 most_permitted_rise (permitted_of x)
+  unfolding permitted_of rise_of
+  permitted_range =
+      let rise = rise_range fine in
+      permitted_rise_range (Field.dry_ratio x) fine.ratio (record { least = rise.least; most = rise.most }) (isotherm_rise_most fine)
+
   -- T1 to T4, which stages 9 and 10 take
   pub thermal_ranges :
-      {t1 t2 t3 t4 : ℕ} → t1 ≡ Field.t1 x → t2 ≡ Field.t2 x → t3 ≡ Field.t3 x → t4 ≡ Field.t4 x → ThermalRanges t1 t2 t3 t4
+      {t1 t2 t3 t4 : ℕ} → t1 ≡ Field.t1 x → t2 ≡ Field.t2 x → t3 ≡ Field.t3 x → t4 ≡ soil_T4 x → ThermalRanges t1 t2 t3 t4
   thermal_ranges t1-is t2-is t3-is t4-is =
       record {
         t1_most = omega (arith, fine.t1);
         t2_most = omega (arith, fine.t2);
         t3_most = omega (arith, fine.t3);
-        t4_most = omega (arith, fine.t4);
+        t4_most = omega (arith, soil_T4_range);
       }
 
   -- after refusal 8

@@ -1,33 +1,26 @@
--- θc - θa as a whole number: refusal 6 keeps it at 500 or above, and the limits at 29000 or below. Assumes nothing.
-use Rattle.std.specs.Prelude.{◌≡◌, refl, Bool, true, false, cond, List, ℕ, zero, suc, ◌-◌, ◌≤◌, ltb, ℤ, pos, negsuc, neg_ℤ, ◌-ℤ◌}
-use Rattle.std.specs.Prelude.{nat_abs, ◌≤ℤ◌}
-use Rattle.std.proofs.Common.{arith, leb→le}
-use Rattle.std.proofs.Math.IntN.{sub_ℕ}
+-- θc - θa and θx - θa as whole numbers: refusal 6 keeps the first at 500 or above, and the limits keep both at 29000 or below.
+-- Assumes nothing.
+use Rattle.std.specs.Prelude.{List, ℕ, ◌≤◌, ℤ, pos, neg_ℤ, ◌-ℤ◌}
+use Rattle.std.specs.Prelude.{◌≤ℤ◌}
+use Rattle.std.proofs.Common.{arith}
+use Rattle.std.proofs.lemmas.Int.{ints}
 use Rattle.fields.specs.Fields as Field
-use Rattle.rating.specs.Laws.Sound.{Sound, InZ}
+use Rattle.rating.specs.Values.{isotherm_rise_of}
+use Rattle.rating.specs.Laws.Sound.{Sound}
 use Rattle.rating.specs.Laws.Rise.{RiseRange}
 
-whole : (z : ℤ) → pos 500 ≤ℤ z → (z ≡ pos (nat_abs z)) × (500 ≤ nat_abs z)
-whole (pos n) h = (refl, leb→le 500 n h.le)
-whole (negsuc n) h = absurd h.le
+pub above_cold : (θ : ℤ) → pos 4000 ≤ℤ θ → neg_ℤ (pos 4000) ≤ℤ θ
+above_cold θ h = omega (arith, ints)
 
--- the difference of two whole numbers, whichever is larger
-apart_most : (n a : ℕ) → n ≤ 25000 → suc a ≤ 6000 → nat_abs (sub_ℕ n (suc a)) ≤ 29000
-apart_most n a n≤ a≤ = go (ltb n (suc a))
-  where
-    go : (below : Bool) → nat_abs (cond below (negsuc (suc a - suc n)) (pos (n - suc a))) ≤ 29000
-    go true = omega arith
-    go false = omega arith
+module _ {x : List ℕ} (fine : Sound x) where
+  pub rise_range : RiseRange (Field.conductor_temperature x -ℤ Field.ambient_temperature x)
+  rise_range =
+      record {
+        sign = omega (arith, ints, fine.rise);
+        least = omega (arith, ints, fine.rise);
+        most = omega (arith, ints, fine.rise, fine.hot, fine.ambient);
+      }
 
-difference_most : (θc θa : ℤ) → InZ (pos 4000) (pos 25000) θc → InZ (neg_ℤ (pos 4000)) (pos 6000) θa → nat_abs (θc -ℤ θa) ≤ 29000
-difference_most (pos n) (pos zero) hot ambient = omega (arith, leb→le n 25000 hot.most.le)
-difference_most (pos n) (pos (suc a)) hot ambient =
-    apart_most n a (leb→le n 25000 hot.most.le) (leb→le (suc a) 6000 ambient.most.le)
-difference_most (pos n) (negsuc a) hot ambient =
-    omega (arith, leb→le n 25000 hot.most.le, leb→le a 3999 ambient.least.le)
-difference_most (negsuc n) θa hot ambient = absurd hot.least.le
-
-pub rise_range : {x : List ℕ} → Sound x → RiseRange (Field.conductor_temperature x -ℤ Field.ambient_temperature x)
-rise_range fine =
-    let p = whole _ fine.rise in
-    record { sign = p.0; least = p.1; most = difference_most _ _ fine.hot fine.ambient }
+  pub isotherm_rise_most : isotherm_rise_of x ≤ 29000
+  unfolding isotherm_rise_of
+  isotherm_rise_most = omega (arith, ints, fine.isotherm, fine.ambient)

@@ -8,12 +8,14 @@ use Rattle.formulas.specs.Laws.Ranges.{In}
 use Rattle.formulas.proofs.Laws.Ranges.{unit_rise_least, unit_rise_most}
 use Rattle.formulas.proofs.Laws.CloseUnitRise.{unit_rise_close}
 use Rattle.fields.specs.Fields as Field
+use Rattle.rating.specs.Values.{soil_T4}
 use Rattle.rating.specs.Chosen.{Chosen}
 use Rattle.rating.specs.Arrangements.{own}
 use Rattle.rating.specs.Allowed.{Allowed}
 use Rattle.rating.specs.Stage10.{numbers_of, E}
 use Rattle.rating.specs.Exact.{numbers_of*, E*}
 use Rattle.rating.specs.Laws.Fit.{Fit}
+use Rattle.rating.proofs.Laws.Ranges.{soil_T4_range}
 use Rattle.rating.proofs.Laws.Arrangement.{InRange, Close}
 use Rattle.rating.proofs.Laws.Arrangements.{lawful}
 
@@ -32,7 +34,7 @@ module _ {x : List ℕ} (fit : Fit (own x) x) where
       record {
         least = unit_rise_least _ _ _ _ _ _ ν.R.least fine.t1.least;
         most =
-            unit_rise_most ν.n.most ν.R.most ν.S ν.W fine.t1.most fine.t2.most fine.t3.most fine.t4.most;
+            unit_rise_most ν.n.most ν.R.most ν.S ν.W fine.t1.most fine.t2.most fine.t3.most (soil_T4_range fine).most;
       }
 
   module _ {c : Chosen} (allowed : Allowed (own x) x c) where
@@ -47,7 +49,7 @@ module _ {x : List ℕ} (fit : Fit (own x) x) where
     E_close =
         let near = numbers_close in
         let ν = numbers_in_range in
-        unit_rise_close near.R near.S near.W ν.R.least (numbers_of x).n (Field.t1 x) (Field.t2 x) (Field.t3 x) (Field.t4 x)
+        unit_rise_close near.R near.S near.W ν.R.least (numbers_of x).n (Field.t1 x) (Field.t2 x) (Field.t3 x) (soil_T4 x)
         ν.n.least
         fit.sound.t1.least
-        fit.sound.t4.least
+        (soil_T4_range fit.sound).least

@@ -10,7 +10,7 @@ use Rattle.stages.specs.declared.thermal.Thermal.{Thermal}
 use Rattle.formulas.specs.Laws.Bounds.{most_reactance, most_spacing_log}
 use Rattle.formulas.specs.Laws.Ranges.{In}
 use Rattle.fields.specs.Fields as Field
-use Rattle.rating.specs.Values.{R', zs, zp, ys, yp, R, rise_of}
+use Rattle.rating.specs.Values.{R', zs, zp, ys, yp, R, soil_T4, permitted_of}
 use Rattle.rating.specs.Arrangement.{Arrangement, alternating}
 use Rattle.rating.specs.Arrangements.{own}
 use Rattle.rating.specs.FieldRefusals.{field_refusal}
@@ -25,12 +25,12 @@ pub record MetalLimits (field metal : ℕ) (θ : ℤ) : Type 0 where
   pub code : In 1 6 metal
   pub temperature : InZ (neg_ℤ (pos 4000)) (pos 25000) θ
 
--- t holds T1 to T4 of the case x
+-- t holds T1 to T4 of the case x, T4 in its own unit
 pub record IsThermal (x : List ℕ) (t : Thermal) : Type 0 where
   pub t1_is : t.t1 ≡ Field.t1 x
   pub t2_is : t.t2 ≡ Field.t2 x
   pub t3_is : t.t3 ≡ Field.t3 x
-  pub t4_is : t.t4 ≡ Field.t4 x
+  pub t4_is : t.t4 ≡ soil_T4 x
 
 -- what ys, yp and R are worked out from, after refusal 8
 pub record ConductorTakes (x : List ℕ) (rc skin proximity : ℕ) : Type 0 where
@@ -59,7 +59,7 @@ pub record Asks (a : Arrangement) (x : List ℕ) (r : Rules) : Type 0 where
   pub metal : r.metal ≡ a.metal x
   pub eddies : r.eddies ≡ a.eddies
 
--- the first of refusals 1 to 7 that is given, or none is
+-- the first of refusals 1 to 7 and 31 that is given, or none is
 abbrev pub ChecksFields : List ℕ → Result (Unit {0}) Refusal → Type 0
 ChecksFields x r = MatchResult r (λ _. field_refusal x ≡ 0) (λ refusal. field_refusal x ≡ number_of refusal)
 
@@ -77,7 +77,7 @@ pub record Loses (a : Arrangement) (x : List ℕ) (l : Losses) : Type 0 where
 
 -- the permitted rise, dd, which refusal 10 lets pass, and E of the case x
 pub record Warms (x : List ℕ) (permitted dd e : ℕ) : Type 0 where
-  pub permitted_is : permitted ≡ rise_of x
+  pub permitted_is : permitted ≡ permitted_of x
   pub dd_is : dd ≡ (numbers_of x).dd
   pub e_is : e ≡ E x
-  pub share : 10 * dd ≤ 90000000 * permitted
+  pub share : 10 * dd ≤ 9 * permitted

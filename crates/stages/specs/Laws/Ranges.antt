@@ -45,9 +45,7 @@ use Rattle.formulas.specs.Laws.Bounds.{
   most_sheath_loss,
   most_armour_loss,
   most_dielectric_loss,
-  most_current_rise,
-  most_part_loss,
-  most_part_resistance,
+  most_permitted_rise,
   most_part_rise,
   least_unit_rise,
 }
@@ -212,12 +210,12 @@ pub record DielectricRiseRanges (n wd t1 t2 t3 t4 : ℕ) : Type 0 where
   pub thermal : ThermalRanges t1 t2 t3 t4
 
 -- a part of E
-pub record PartRanges (r t : ℕ) : Type 0 where
-  pub r_most : r ≤ most_part_loss
-  pub t_most : t ≤ most_part_resistance
+pub record PartRanges (r t unit : ℕ) : Type 0 where
+  pub unit>0 : 0 < unit
+  pub product_most : r * t ≤ most_part_rise * unit
 
-pub record IsPart (r t rise : ℕ) : Type 0 where
-  pub rise_is : rise ≡ up (r * t) 1000000
+pub record IsPart (r t unit rise : ℕ) : Type 0 where
+  pub rise_is : rise ≡ up (r * t) unit
   pub rise_most : rise ≤ most_part_rise
 
 pub record UnitRiseRanges (n r s w t1 t2 t3 t4 : ℕ) : Type 0 where
@@ -228,5 +226,5 @@ pub record UnitRiseRanges (n r s w t1 t2 t3 t4 : ℕ) : Type 0 where
   pub thermal : ThermalRanges t1 t2 t3 t4
 
 pub record RatingRanges (N E : ℕ) : Type 0 where
-  pub N_most : N ≤ most_current_rise
+  pub N_most : N ≤ most_permitted_rise
   pub E_least : least_unit_rise ≤ E

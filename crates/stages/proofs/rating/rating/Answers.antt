@@ -12,4 +12,4 @@ returns c = let q = c.mul_div in
     root_only c.root.ensures (root_is q.result) ∙ ap root q.ensures
 
 pub mul_div-requires : goal.mul_div-requires
-mul_div-requires c = quotient_down_fits 80000000000000000 (omega arith) (omega arith) tt
+mul_div-requires c = quotient_down_fits 400000000000000000 (omega arith) (omega arith) tt

@@ -5,7 +5,7 @@ use Rattle.formulas.specs.Resistance.{resistance}
 use Rattle.formulas.proofs.Laws.TableRange.{conductor_metal_range}
 use Rattle.fields.specs.Fields as Field
 use Rattle.rating.specs.Values.{R'}
-use Rattle.rating.proofs.Laws.Ranges.{above_cold}
+use Rattle.rating.proofs.Laws.Rise.{above_cold}
 use Rattle.rating.proofs.case.SoundCase.conductor_resistance.Goals as goal
 
 pub resistance_of-requires : goal.resistance_of-requires

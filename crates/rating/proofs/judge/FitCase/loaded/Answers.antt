@@ -1,18 +1,18 @@
 -- `loaded` is the definition: refusals 10 and 11 are its tests, and the sheet is in order.
 use Rattle.std.proofs.Common.{[], ap, arith, le-ltb, lt-ltb, ltb, subst, sym, ◌*◌, ◌∙◌, ◌∷◌, ◌≡◌}
-use Rattle.formulas.specs.Refusals.{dielectric_refused, current_refused}
-use Rattle.rating.specs.Values.{rise_of}
+use Rattle.formulas.specs.Refusals as Test
 use Rattle.rating.specs.Arrangement.{alternating}
 use Rattle.rating.specs.Arrangements.{own}
 use Rattle.rating.specs.Laws.Steps.{Loses}
 use Rattle.rating.proofs.Own.{loses}
+use Rattle.rating.specs.StageRefusals.{dielectric_refused}
 use Rattle.rating.specs.Stage10.{numbers_of}
 use Rattle.rating.specs.Rate.{refused, rated, loaded, sheet_of}
-use Rattle.rating.proofs.Laws.Rise.{rise_range}
+use Rattle.rating.proofs.Laws.Ranges.{permitted_range}
 use Rattle.rating.proofs.Laws.Arrangement.{InRange}
 use Rattle.rating.proofs.Laws.Stage10.{numbers_in_range}
 use Rattle.rating.proofs.judge.FitCase.loaded.Goals as goal
-use Rattle.rating.proofs.judge.FitCase.loaded.Goals.{After-losses-l, After-dielectric_rise-dd, After-rise-permitted}
+use Rattle.rating.proofs.judge.FitCase.loaded.Goals.{After-losses-l, After-dielectric_rise-dd, After-permitted-permitted}
 
 -- the losses are those of the case's own arrangement
 own_losses : (c : After-losses-l) → Loses (own c.args.self.now.case.x) c.args.self.now.case.x c.losses-l.result
@@ -20,18 +20,18 @@ own_losses c = loses c.args.self.now.case.has c.losses-l.ensures
 
 dd_is : (c : After-dielectric_rise-dd) → c.dielectric_rise-dd.result ≡ (numbers_of c.args.self.now.case.x).dd
 unfolding alternating
-dd_is c = c.dielectric_rise-dd.ensures ∙ sym (ap (λ ν. ν.dd) (own_losses c.before).numbers_are)
+dd_is c = c.dielectric_rise-dd.ensures ∙ sym (ap (λ ν. ν.dd) (own_losses c.before.before).numbers_are)
 
 -- the code's test of refusal 10 is the definition's
 hot :
-    (c : After-rise-permitted) →
+    (c : After-permitted-permitted) →
     let x = c.args.self.now.case.x in
-    dielectric_refused (numbers_of x).dd (rise_of x) ≡ ltb (90000000 * c.rise-permitted.result) (10 * c.dielectric_rise-dd.result)
-unfolding dielectric_refused
+    dielectric_refused x ≡ ltb (9 * c.permitted-permitted.result) (10 * c.dielectric_rise-dd.result)
+unfolding Test.dielectric_refused
 hot c =
     let dd = sym (dd_is c.before) in
-    let rise = sym c.rise-permitted.ensures in
-    λ i. ltb (90000000 * rise i) (10 * dd i)
+    let permitted = sym c.permitted-permitted.ensures in
+    λ i. ltb (9 * permitted i) (10 * dd i)
 
 pub dielectric_rise-dd-requires : goal.dielectric_rise-dd-requires
 unfolding alternating
@@ -40,11 +40,10 @@ dielectric_rise-dd-requires c =
     let ν : InRange (alternating l.n l.s l.w c.args.self.now.case.x) =
     subst InRange (own_losses (goal.at.dielectric_rise-dd-requires c).After-losses-l).numbers_are (numbers_in_range c.args.self.now.fit)
     in
-    ν.n.most
+    record { n_most = ν.n.most; t_is = c.thermal-t.ensures }
 
 pub overflow_mul-permitted : goal.overflow_mul-permitted
-unfolding rise_of
-overflow_mul-permitted c = omega (arith, c.rise-permitted.ensures, rise_range c.args.self.now.fit.sound)
+overflow_mul-permitted c = omega (arith, c.permitted-permitted.ensures, permitted_range c.args.self.now.fit.sound)
 
 pub overflow_mul-dd : goal.overflow_mul-dd
 overflow_mul-dd c =
@@ -55,27 +54,27 @@ unfolding loaded refused
 returns-then-permitted-dd c =
     sym
     (c.args.self.now.answer
-    ∙ simp (hot (goal.at.returns-then-permitted-dd c).After-rise-permitted ∙ lt-ltb _ _ c.if-permitted-dd.true))
+    ∙ simp (hot (goal.at.returns-then-permitted-dd c).After-permitted-permitted ∙ lt-ltb _ _ c.if-permitted-dd.true))
 
 pub current-i-requires : goal.current-i-requires
 current-i-requires c =
     record {
-      permitted_is = c.rise-permitted.ensures;
+      permitted_is = c.permitted-permitted.ensures;
       dd_is = dd_is (goal.at.current-i-requires c).After-dielectric_rise-dd;
       e_is = c.unit_rise-e.ensures;
       share = c.if-permitted-dd.false;
     }
 
 pub returns-then-i-gt-MOST_CURRENT : goal.returns-then-i-gt-MOST_CURRENT
-unfolding loaded refused current_refused
+unfolding loaded refused Test.current_refused
 returns-then-i-gt-MOST_CURRENT c =
     let over = ap (ltb 5000000) (sym c.current-i.ensures) ∙ lt-ltb _ _ c.if-i-gt-MOST_CURRENT.true in
     sym
     (c.args.self.now.answer
-    ∙ simp (hot (goal.at.returns-then-i-gt-MOST_CURRENT c).After-rise-permitted ∙ le-ltb _ _ c.if-permitted-dd.false, over))
+    ∙ simp (hot (goal.at.returns-then-i-gt-MOST_CURRENT c).After-permitted-permitted ∙ le-ltb _ _ c.if-permitted-dd.false, over))
 
 pub returns : goal.returns
-unfolding loaded current_refused rated sheet_of alternating
+unfolding loaded Test.current_refused rated sheet_of alternating
 returns c =
     let p = c.args.self.now in
     let l = own_losses (goal.at.returns c).After-losses-l in
@@ -83,7 +82,7 @@ returns c =
     let s = sym (ap (λ ν. ν.S) l.numbers_are) in
     let w = sym (ap (λ ν. ν.W) l.numbers_are) in
     let under = ap (ltb 5000000) (sym c.current-i.ensures) ∙ le-ltb _ _ c.if-i-gt-MOST_CURRENT.false in
-    simp (p.answer, hot (goal.at.returns c).After-rise-permitted ∙ le-ltb _ _ c.if-permitted-dd.false, under)
+    simp (p.answer, hot (goal.at.returns c).After-permitted-permitted ∙ le-ltb _ _ c.if-permitted-dd.false, under)
     (λ j.
     record {
       number = 0;

@@ -12,9 +12,9 @@ unit_rise-requires c =
     let self = c.args.self.now in
     let l = c.args.l in
     let ν : InRange (alternating l.n l.s l.w self.case.x) =
-    subst InRange c.requires.numbers_are (numbers_in_range self.fit)
+    subst InRange c.requires.l_is.numbers_are (numbers_in_range self.fit)
     in
-    let t = c.thermal.ensures in
+    let t = c.requires.t_is in
     record {
       n_most = ν.n.most;
       r_most = omega (arith, self.r_is, ν.R);

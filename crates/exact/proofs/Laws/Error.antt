@@ -2,7 +2,7 @@
 -- errors simply add under products and quotients, with no second-order terms. Assumes nothing.
 use Rattle.std.proofs.Common.{arith}
 use Rattle.std.specs.Prelude.{◌≡◌, ℕ, ◌+◌, ◌*◌, ◌≤◌, ◌<◌}
-use Rattle.std.proofs.Common.{ap₂, le_refl, lit<}
+use Rattle.std.proofs.Common.{ap₂, le_refl, zero-le, lit<}
 use Rattle.std.proofs.Math.Nat.{mul-pos, mul-le-mul_right, lt_of_mul-lt-mul_left}
 use Rattle.exact.specs.Fraction.{Fraction, ◌over◌, whole, ◌+F◌, ◌*F◌, reciprocal, ◌/F◌, ◌≤F◌, ◌≃F◌}
 use Rattle.exact.proofs.Laws.Fraction.{≤F_refl, ≤F_trans, ≃F→≤F, ≃F_sym, +F_mono, *F_mono, reciprocal_anti, +F_assoc, *F_comm}
@@ -134,6 +134,18 @@ within_sum {r} {c} {d} {x} {y} {u} {v} p q =
           (+F_mono x+u≤x+u
           (≃F→≤F (excess_sum r c d y v (rest_has_value p) (rest_has_value q) p.below.right q.below.right))));
     }
+
+added_nothing : (c : Fraction) → 0 < c.den → c +F whole 0 ≤F c
+unfolding ◌+F◌
+added_nothing c c>0 = record { left = omega (arith, c>0); right = c>0; across = omega arith }
+
+-- the same exact value added to both
+pub within_plus : {r : ℕ} {c x y : Fraction} (k : Fraction) → 0 < k.den → Within r c x y → Within r c (x +F k) (y +F k)
+within_plus {r} {c} k k>0 p =
+    let k_itself : Within r (whole 0) k k =
+    within_weaken zero-le (≤F_refl (whole 0) (lit< tt)) (within_refl (≤F_refl k k>0))
+    in
+    within_weaken (le_refl r) (added_nothing c (rest_has_value p)) (within_sum p k_itself)
 
 -- both values multiplied by k, which is at most m
 pub within_times : {r : ℕ} {c x y k m : Fraction} → k ≤F m → Within r c x y → Within r (c *F m) (x *F k) (y *F k)

@@ -14,7 +14,7 @@ use Rattle.exact.proofs.Laws.Fraction.{whole_mono}
 use Rattle.exact.specs.Error.{parts, Within}
 use Rattle.exact.proofs.Laws.Error.{within_refl, within_weaken, within_trans, within_absorb, within_sum, within_times, within_product}
 use Rattle.exact.proofs.Laws.Error.{within_reciprocal, within_saturate, within_relative_product, within_same, within_scale}
-use Rattle.exact.proofs.Laws.Error.{within_relative_reciprocal}
+use Rattle.exact.proofs.Laws.Error.{within_relative_reciprocal, within_plus}
 use Rattle.exact.proofs.Laws.RoundingError.{within_up, within_down, within_round, within_round_down, within_up_after, within_up_over}
 use Rattle.exact.proofs.Laws.RoundingError.{within_round_over}
 
@@ -111,12 +111,14 @@ errors :
     × Within (0 + 0) (whole 1 +F whole 1) (whole (down 7 3)) (whole (up 7 3))
     × Within 0 (whole 1 +F whole 1) ((7 over 3) +F (7 over 3)) (whole (up 7 3) +F whole (up 7 3))
     × Within 0 (whole 1 *F whole 2) ((7 over 3) *F whole 1) (whole (up 7 3) *F whole 1)
+    × Within 0 (whole 1) ((7 over 3) +F whole 2) (whole (up 7 3) +F whole 2)
 errors = (
   within_refl (≤F_refl (whole 1) (lit< tt)),
   within_weaken (lit≤ tt) one≤two above,
   within_trans beneath above,
   within_sum above above,
   within_times one≤two above,
+  within_plus (whole 2) (lit< tt) above,
 )
 
 -- 1 is at most 4 × 10^11 parts in 10^12 of 3

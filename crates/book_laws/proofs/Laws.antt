@@ -23,6 +23,5 @@ pub mod Literal
 pub mod Instances
 pub mod CommonSheath
 pub mod Older
-pub mod LowVoltage
-pub mod DrySoil
+pub mod FurtherInputs
 pub mod Named

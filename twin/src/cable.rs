@@ -54,7 +54,7 @@ impl Cable<'_> {
         }
     }
 
-    /// What refusal 10 weighs the dielectric loss against, and what N is left of.
+    /// What refusal 10 weighs the rise without current against, and what N is left of.
     pub fn permitted_rise(&self) -> u128 {
         stages::permitted_rise(self.above_ambient(3), self.soil_ratio(), self.above_ambient(28))
     }
@@ -165,11 +165,20 @@ impl Cable<'_> {
         (wd, stages::dielectric_rise(wd, &self.thermal()))
     }
 
+    /// The rise by the sun's heat.
+    pub fn solar_rise(&self) -> u128 {
+        stages::solar_rise(self.field(29), self.field(25))
+    }
+
+    /// d0.
+    pub fn rise_without_current(&self) -> u128 {
+        stages::rise_without_current(self.dielectric().1, self.solar_rise())
+    }
+
     /// The current of stage 10 in mA, be it over refusal 11's limit or not;
-    /// nothing where the dielectric loss takes more than the permitted rise.
+    /// nothing where the rise without current is more than the permitted one.
     pub fn current(&self) -> Option<u128> {
-        let (_, dd) = self.dielectric();
-        let n_left = self.permitted_rise().checked_sub(dd)?;
+        let n_left = self.permitted_rise().checked_sub(self.rise_without_current())?;
         let (_, _, r) = self.conductor(self.skin_arguments());
         let (_, s) = self.sheath();
         let e = stages::effective_resistance(r, s, self.armour_loss(), &self.thermal());

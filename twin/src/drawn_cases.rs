@@ -3,7 +3,7 @@
 // ones at the edge of a limit or of a refusal.
 
 use crate::dice::Dice;
-use crate::rating::{dry_soil, holds, limits, rate, value, Rated, Words, WIDTH};
+use crate::rating::{dry_soil, holds, in_the_sun, limits, rate, value, Rated, Words, WIDTH};
 use crate::sample_cables::with;
 use crate::stages::{temperature_factor, LARGEST_RS_OF_SUM};
 use crate::tables::metal_coefficient;
@@ -87,7 +87,26 @@ fn soil(ambient: i64, theta_c: i64, dice: &mut Dice) -> [i64; 2] {
     [dice.between(low, high), dice.between(ambient, theta_c)]
 }
 
-/// A case of an arrangement, within every limit and past refusals 1 to 7 and 31.
+/// Puts the sun on half of the cables that lie in no dry soil: a heat of any order of
+/// magnitude or the highest, and most often a T4 that is at most the last by which the
+/// sun alone leaves a tenth of the permitted rise, so that most of these can be rated.
+fn put_sun(case: &mut Values, dice: &mut Dice) {
+    if case[27] != 0 || dice.roll().is_multiple_of(2) {
+        return;
+    }
+    let highest = limits(29).1;
+    let heat = match dice.roll() % 4 {
+        0 => highest,
+        _ => (dice.between(1, highest) >> (dice.roll() % 18)).max(1),
+    };
+    let (low, high) = limits(25);
+    if !dice.roll().is_multiple_of(8) {
+        case[25] = dice.between(low, high.min(9_000_000 * (case[3] - case[4]) / heat));
+    }
+    case[29] = heat;
+}
+
+/// A case of an arrangement, within every limit and past refusals 1 to 7, 31 and 32.
 fn sound_case_of(arrangement: i64, dice: &mut Dice) -> Words {
     let theta_c = dice.between(4000, 25000);
     let ambient = dice.between(-4000, (theta_c - 500).min(6000));
@@ -104,11 +123,12 @@ fn sound_case_of(arrangement: i64, dice: &mut Dice) -> Words {
     case[24..26].copy_from_slice(&[dice.between(0, 10_000_000), dice.between(10000, 20_000_000)]);
     case[26] = loss_voltage(case[10], dice);
     case[27..29].copy_from_slice(&soil(ambient, theta_c, dice));
+    put_sun(&mut case, dice);
     put_three_cores(&mut case, dice);
     case.map(|value| value as u32)
 }
 
-/// A case within every limit and past refusals 1 to 7 and 31, of any arrangement.
+/// A case within every limit and past refusals 1 to 7, 31 and 32, of any arrangement.
 pub fn sound_case(dice: &mut Dice) -> Words {
     let arrangement = dice.between(1, 6);
     sound_case_of(arrangement, dice)
@@ -128,7 +148,8 @@ pub fn disturb(case: &mut Words, times: usize, dice: &mut Dice) {
 }
 
 /// A sound case in soil that dries out above an isotherm which is as hot as the
-/// ambient or the conductor, or differs from it by the least step or by any.
+/// ambient or the conductor, or differs from it by the least step or by any. Some are
+/// in the sun too.
 fn near_isotherm(dice: &mut Dice) -> Words {
     let mut case = sound_case(dice);
     let (low, high) = limits(27);
@@ -157,7 +178,7 @@ pub fn mixed_case(dice: &mut Dice) -> Words {
         }
         2 => disturb(&mut case, 1, dice),
         // A field of another sound case is in its own limits but may not go
-        // with the rest: refusals 3 to 7 and 31.
+        // with the rest: refusals 3 to 7, 31 and 32.
         3 => {
             let field = dice.roll() as usize % WIDTH;
             case[field] = sound_case(dice)[field];
@@ -168,9 +189,21 @@ pub fn mixed_case(dice: &mut Dice) -> Words {
     case
 }
 
+/// The case in the most heat of the sun that refusal 10 lets pass, or the highest.
+fn in_most_heat(case: &Words) -> Words {
+    match first(case, 29, |case| holds(10, case)) {
+        Some(mut refused) => {
+            refused[29] -= 1;
+            refused
+        }
+        None => with(case, &[(29, limits(29).1 as u32)]),
+    }
+}
+
 /// The first of some sound cases that is rated, and its rating. Voltages are
 /// brought to every order of magnitude, since most cases at a high one are
-/// refused for the dielectric.
+/// refused for the dielectric. A quarter of those in the sun take up the most heat
+/// with which they are rated.
 fn first_rated(dice: &mut Dice, sound: impl Fn(&mut Dice) -> Words) -> (Words, Rated) {
     loop {
         let mut case = sound(dice);
@@ -180,22 +213,29 @@ fn first_rated(dice: &mut Dice, sound: impl Fn(&mut Dice) -> Words) -> (Words, R
         if dice.roll().is_multiple_of(4) {
             case[22..26].copy_from_slice(&[1000, 0, 0, 10000]);
         }
-        let rated = rate(&case);
-        if rated.answer == 0 {
-            return (case, rated);
+        if rate(&case).answer == 0 {
+            if in_the_sun(&case) && dice.roll().is_multiple_of(4) {
+                case = in_most_heat(&case);
+            }
+            return (case, rate(&case));
         }
     }
 }
 
-/// A rated case of one arrangement, or of any, in soil that dries out, and its rating.
-pub fn rated_dry_case(arrangement: Option<i64>, dice: &mut Dice) -> (Words, Rated) {
-    loop {
-        let rated = match arrangement {
-            Some(arrangement) => rated_case_of(arrangement, dice),
-            None => rated_case(dice),
-        };
-        if dry_soil(&rated.0) {
-            return rated;
+/// The surroundings that a drawn case is to have.
+#[derive(Clone, Copy)]
+pub enum Surroundings {
+    Any,
+    DrySoil,
+    Sun,
+}
+
+impl Surroundings {
+    fn are_of(self, case: &Words) -> bool {
+        match self {
+            Surroundings::Any => true,
+            Surroundings::DrySoil => dry_soil(case),
+            Surroundings::Sun => in_the_sun(case),
         }
     }
 }
@@ -205,14 +245,26 @@ pub fn rated_case(dice: &mut Dice) -> (Words, Rated) {
     first_rated(dice, sound_case)
 }
 
-/// A rated case of one arrangement, 1 to 6, and its rating.
-pub fn rated_case_of(arrangement: i64, dice: &mut Dice) -> (Words, Rated) {
-    first_rated(dice, |dice| sound_case_of(arrangement, dice))
+/// A rated case of one arrangement, 1 to 6, or of any, in such surroundings, and its
+/// rating.
+pub fn rated_case_of(
+    arrangement: Option<i64>,
+    surroundings: Surroundings,
+    dice: &mut Dice,
+) -> (Words, Rated) {
+    loop {
+        let rated = match arrangement {
+            Some(arrangement) => first_rated(dice, |dice| sound_case_of(arrangement, dice)),
+            None => rated_case(dice),
+        };
+        if surroundings.are_of(&rated.0) {
+            return rated;
+        }
+    }
 }
 
 /// A sound case with one field at one of its limits or next to it, on either
-/// side; the arrangement and the conductor code have limits too, and the field
-/// without a meaning has 0 for both.
+/// side; the arrangement and the conductor code have limits too.
 pub fn near_limit(dice: &mut Dice) -> Words {
     let mut case = sound_case(dice);
     let field = dice.roll() as usize % case.len();
@@ -223,14 +275,21 @@ pub fn near_limit(dice: &mut Dice) -> Words {
 }
 
 /// Refusals 8 to 11, each with a field that brings it about or ends it: R0 for
-/// the skin and the current, the sheath's resistance, the voltage.
-const TURNS: [(u32, usize); 4] = [(8, 5), (9, 15), (10, 10), (11, 5)];
+/// the skin and the current, the sheath's resistance, the voltage and the sun's heat.
+const TURNS: [(u32, usize); 5] = [(8, 5), (9, 15), (10, 10), (10, 29), (11, 5)];
 
 /// A sound case in which no other refusal is likely to stand before the one
-/// that is wanted: no voltage, and for 5000 A small thermal resistances.
-fn sound_case_for(refusal: u32, dice: &mut Dice) -> Words {
+/// that is wanted: no voltage, and for 5000 A small thermal resistances. Where the
+/// sun's heat is to bring it about there is no dry soil, but a voltage of any order of
+/// magnitude, since it is weighed together with the dielectric loss.
+fn sound_case_for(refusal: u32, field: usize, dice: &mut Dice) -> Words {
     let mut case = sound_case(dice);
-    case[10] = 0;
+    if field == 29 {
+        case[10] >>= dice.roll() % 20;
+        case[27..29].fill(0);
+    } else {
+        case[10] = 0;
+    }
     if refusal == 11 {
         let highest = [20000, 5000, 5000, 30000];
         for (field, highest) in (22..).zip(highest) {
@@ -246,7 +305,7 @@ fn sound_case_for(refusal: u32, dice: &mut Dice) -> Words {
 pub fn at_turn(dice: &mut Dice) -> Words {
     loop {
         let (refusal, field) = TURNS[dice.roll() as usize % TURNS.len()];
-        let case = sound_case_for(refusal, dice);
+        let case = sound_case_for(refusal, field, dice);
         let at_low = holds(refusal, &with(&case, &[(field, limits(field).0 as u32)]));
         if let Some(mut turned) = first(&case, field, |case| holds(refusal, case) != at_low) {
             turned[field] -= dice.roll() as u32 % 2;

@@ -14,6 +14,7 @@ mod loss_voltage;
 pub mod pairs;
 mod relations;
 pub mod skin;
+pub mod sun;
 
 use crate::rating::Words;
 
@@ -39,11 +40,12 @@ pub fn groups() -> Vec<Group> {
         codes::stray(),
         dry_soil::ratios(),
         dry_soil::isotherm_limits(),
-        dry_soil::stray(),
+        sun::heats(),
         relations::geometry(),
         relations::heat(),
         dry_soil::isotherms(),
         dry_soil::below_zero(),
+        sun::with_ratio(),
         skin::skin(),
         eddy::eddy(),
         common_sheath::formulas(),
@@ -51,8 +53,12 @@ pub fn groups() -> Vec<Group> {
         loss_voltage::loss_voltage(),
         dry_soil::moist(),
         dry_soil::thousandths(),
+        sun::sheets(),
         dielectric::dielectric(),
         dry_soil::dielectric(),
+        sun::dielectric_alone(),
+        sun::dielectric_together(),
+        sun::ends(),
         current::current(),
         pairs::pairs(),
     ]

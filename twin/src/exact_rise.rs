@@ -8,28 +8,31 @@ use crate::rating::{armoured, dry_soil, loss_counts, three_cores, value, Words};
 use crate::stages;
 use crate::tables;
 
-/// The exact E and dd, in the units of the rounded ones.
+/// The exact E, dd and d0, in the units of the rounded ones.
 pub struct Heating {
     pub e: Fraction,
     pub dd: Fraction,
+    pub d0: Fraction,
 }
 
 impl Heating {
     pub fn of(case: &Words, chosen: &Chosen) -> Heating {
         let cable = Cable { words: case, chosen };
-        Heating { e: cable.effective_resistance(), dd: cable.dielectric_rise() }
+        let dd = cable.dielectric_rise();
+        let d0 = dd.plus(&cable.solar_rise());
+        Heating { e: cable.effective_resistance(), dd, d0 }
     }
 
-    /// The rise at a current in mA, in 10^-9 K: I^2 E/10^13 + dd.
+    /// The rise at a current in mA, in 10^-9 K: I^2 E/10^13 + d0.
     pub fn rise(&self, current: u128) -> Fraction {
         let squared = Fraction::new(current * current, 10_000_000_000_000);
-        squared.times(&self.e).plus(&self.dd)
+        squared.times(&self.e).plus(&self.d0)
     }
 
     /// The square, in mA^2, of the current at which the rise is the permitted
-    /// one. dd of a rated case is at most nine tenths of that.
+    /// one. d0 of a rated case is at most nine tenths of that.
     pub fn limit_squared(&self, permitted: &Fraction) -> Option<Fraction> {
-        let left = permitted.minus(&self.dd)?;
+        let left = permitted.minus(&self.d0)?;
         Some(left.times(&Fraction::whole(10_000_000_000_000)).over(&self.e))
     }
 }
@@ -223,6 +226,11 @@ impl Cable<'_> {
         let half_t1 = self.field(22).over(&Fraction::whole(2));
         let thermal = half_t1.plus(&self.cores().times(&outer));
         self.dielectric_loss().times(&thermal).over(&Fraction::whole(1_000_000_000))
+    }
+
+    /// Q T4 in 10^-9 K: of mW/m and 10^-6 K m/W.
+    fn solar_rise(&self) -> Fraction {
+        self.field(29).times(&self.field(25))
     }
 
     // Stage 10.

@@ -72,7 +72,7 @@ pub fn margins_at(case: &Words, rated: &Rated, chosen: &Chosen) -> Option<Margin
     let above = excess(&exact.rise(current + 2), &permitted)?;
     let e_error = Fraction::whole(rated.sheet[E].into()).minus(&exact.e)?;
     let dd_error = Fraction::whole(rated.sheet[DD].into()).minus(&exact.dd)?;
-    let left = permitted.minus(&exact.dd)?;
+    let left = permitted.minus(&exact.d0)?;
     let dd_counts = exact.dd >= Fraction::whole(KELVIN);
     Some(Margins {
         combinations: 1,

@@ -1,4 +1,4 @@
-// A case's answer: the refusals 1 to 6, 31 and 7 to 11 tried in this order, then
+// A case's answer: the refusals 1 to 6, 31, 32 and 7 to 11 tried in this order, then
 // the rating in mA and the sheet. Those up to 7 are decided on the words alone; only
 // a case that passes them reaches a stage, so the stages see fields in limits.
 
@@ -31,9 +31,9 @@ pub fn from_older(older: &[u32; OLDER_WIDTH]) -> Words {
 pub const SKIN_LIMIT: u128 = 7_840_000_000_000;
 pub const CURRENT_LIMIT: u128 = 5_000_000;
 
-/// Lowest and highest permitted value of fields 2 to 28, in their order. Field 27
+/// Lowest and highest permitted value of fields 2 to 29, in their order. Field 27
 /// may be 0 as well.
-const LIMITS: [(i64, i64); 27] = [
+const LIMITS: [(i64, i64); 28] = [
     (1000, 6500),
     (4000, 25000),
     (-4000, 6000),
@@ -61,15 +61,14 @@ const LIMITS: [(i64, i64); 27] = [
     (0, 300_000),
     (1000, 5000),
     (-4000, 25000),
+    (0, 200_000),
 ];
 
-/// The limits of any field: those of refusals 1 and 2, and of 3. The field without a
-/// meaning must be zero, by refusal 4.
+/// The limits of any field: those of refusals 1 and 2, and of 3.
 pub fn limits(field: usize) -> (i64, i64) {
     match field {
         0 => (1, 6),
         1 => (1, 8),
-        29..WIDTH => (0, 0),
         _ => LIMITS[field - 2],
     }
 }
@@ -108,18 +107,22 @@ pub fn dry_soil(case: &Words) -> bool {
     case[27] != 0
 }
 
+/// Whether the sun heats the cable: field 29 is the heat that it takes up.
+pub fn in_the_sun(case: &Words) -> bool {
+    case[29] != 0
+}
+
 /// Whether the case's arrangement has a field: the armour's are the SL cable's,
-/// and c both three-core cables'. The last field has no meaning in any.
+/// and c both three-core cables'.
 fn has_field(case: &Words, field: usize) -> bool {
     match field {
         17..=19 | 21 => armoured(case),
         20 => three_cores(case),
-        29.. => false,
         _ => true,
     }
 }
 
-// Refusals 1 to 7 and 31. Each looks at 32-bit values held in i64 and multiplies
+// Refusals 1 to 7, 31 and 32. Each looks at 32-bit values held in i64 and multiplies
 // by 105 at most, so none can overflow whatever the words are.
 
 fn arrangement_wrong(case: &Words) -> bool {
@@ -175,6 +178,11 @@ fn isotherm_wrong(case: &Words) -> bool {
     dry_soil(case) && !(value(case, 4)..=value(case, 3)).contains(&value(case, 28))
 }
 
+/// A cable that the sun heats lies in no soil that could dry out.
+fn sun_wrong(case: &Words) -> bool {
+    dry_soil(case) && in_the_sun(case)
+}
+
 fn metal_wrong(case: &Words) -> bool {
     let needs_lead = matches!(case[0], 3..=5);
     (needs_lead && case[14] != tables::LEAD) || (armoured(case) && case[17] != tables::STEEL)
@@ -184,7 +192,7 @@ type EarlyTest = fn(&Words) -> bool;
 type LateTest = fn(&Cable) -> bool;
 
 /// Refusals with their tests, in the order in which they are tried.
-const EARLY_REFUSALS: [(u32, EarlyTest); 8] = [
+const EARLY_REFUSALS: [(u32, EarlyTest); 9] = [
     (1, arrangement_wrong),
     (2, conductor_wrong),
     (3, limit_passed),
@@ -192,6 +200,7 @@ const EARLY_REFUSALS: [(u32, EarlyTest); 8] = [
     (5, geometry_wrong),
     (6, heat_wrong),
     (31, isotherm_wrong),
+    (32, sun_wrong),
     (7, metal_wrong),
 ];
 
@@ -212,9 +221,10 @@ pub fn eddy_refused(b_high: u128, rs: u128) -> bool {
     5 * b_high > rs
 }
 
-/// Refusal 10: the dielectric loss takes over nine tenths of the permitted rise.
-pub fn dielectric_refused(dd: u128, permitted: u128) -> bool {
-    10 * dd > 9 * permitted
+/// Refusal 10: the dielectric loss and the sun take over nine tenths of the
+/// permitted rise.
+pub fn dielectric_refused(d0: u128, permitted: u128) -> bool {
+    10 * d0 > 9 * permitted
 }
 
 /// Refusal 11: the rating is over 5000 A.
@@ -233,7 +243,7 @@ fn eddy_holds(cable: &Cable) -> bool {
 }
 
 fn dielectric_holds(cable: &Cable) -> bool {
-    dielectric_refused(cable.dielectric().1, cable.permitted_rise())
+    dielectric_refused(cable.rise_without_current(), cable.permitted_rise())
 }
 
 fn current_holds(cable: &Cable) -> bool {
@@ -244,7 +254,7 @@ fn current_holds(cable: &Cable) -> bool {
 const LATE_REFUSALS: [(u32, LateTest); 4] =
     [(8, skin_holds), (9, eddy_holds), (10, dielectric_holds), (11, current_holds)];
 
-/// Whether the test of a refusal, 1 to 11 or 31, holds of a case, whatever the
+/// Whether the test of a refusal, 1 to 11, 31 or 32, holds of a case, whatever the
 /// others say. For 8 to 11 its codes must be in the tables, Di not below ds and v
 /// not below that of moist soil, and the fields near enough to their limits that no
 /// product overflows.
@@ -273,9 +283,10 @@ fn rate_cable(cable: &Cable) -> Result<(u32, [u64; 13]), u32> {
     let (x, s) = cable.sheath();
     let w = cable.armour_loss();
     let (wd, dd) = cable.dielectric();
+    let d0 = stages::rise_without_current(dd, cable.solar_rise());
     let permitted = cable.permitted_rise();
-    refuse(10, dielectric_refused(dd, permitted))?;
-    let n_left = stages::rise_left(permitted, dd);
+    refuse(10, dielectric_refused(d0, permitted))?;
+    let n_left = stages::rise_left(permitted, d0);
     let e = stages::effective_resistance(r, s, w, &cable.thermal());
     let current = stages::largest_current(n_left, e);
     refuse(11, current_refused(current))?;

@@ -74,6 +74,19 @@ pub const DRY_SOIL: Words = [
     6000, 6, 250_000, 5500, 2500, 11000, 350_000, 40_000, 60_000, 450_000, 0, 2500, 5000, 0,
 ];
 
+/// The SL cable in the sun, of which it takes up 30 W/m.
+pub const IN_THE_SUN: Words = [
+    5, 1, 5000, 8500, 1500, 124_000, 1450, 4200, 1750, 3600, 19000, 350, 1000, 4000, 1, 1_000_000,
+    6000, 6, 250_000, 5500, 2500, 11000, 350_000, 40_000, 60_000, 450_000, 0, 0, 0, 30_000,
+];
+
+/// COMMON_SHEATH on a bridge, in air of 30 degrees, where the sun's 1000 W/m2 give it
+/// 33.48 W/m.
+pub const ON_A_BRIDGE: Words = [
+    6, 2, 5000, 9000, 3000, 75400, 1850, 3210, 1970, 3070, 12000, 250, 400, 7377, 1, 355_169, 7658,
+    0, 0, 0, 1853, 0, 406_119, 0, 51159, 307_819, 0, 0, 0, 33480,
+];
+
 /// The case with some fields set anew, in order: a later change overrides.
 pub fn with(case: &Words, changes: &[(usize, u32)]) -> Words {
     let mut altered = *case;

@@ -1,5 +1,5 @@
-// Stages 1 to 10 of document 01, with the common sheath's and the dry soil's of
-// document 02, one function for each quantity they name. Ohms are in 10^-16
+// Stages 1 to 10 of document 01, with the common sheath's, the dry soil's and the
+// sun's of document 02, one function for each quantity they name. Ohms are in 10^-16
 // ohm/m, pure numbers in parts of T = 10^12, temperatures in hundredths of a
 // degree. With the fields' limits every product fits u128.
 
@@ -310,7 +310,8 @@ pub fn armour_loss_screened(w_loss: u128, v2_low: u128) -> u128 {
     up(w_loss * up(T * T, T + v2_low), T)
 }
 
-// Stage 9: the dielectric loss and what it leaves of the permitted rise.
+// Stage 9: the dielectric loss and the sun's heat, and what they leave of the
+// permitted rise.
 
 /// What stage 9 takes of the insulation: permittivity in hundredths, volts to
 /// earth, loss factor in 10^-5, and the lower end of the logarithm of Di/ds.
@@ -364,9 +365,20 @@ pub fn permitted_rise(rise: u128, soil_ratio: u128, isotherm_rise: u128) -> u128
     10_000_000 * rise + 10_000 * (soil_ratio - MOIST) * isotherm_rise
 }
 
-/// N, what is left for the current. The caller has seen that dd is smaller.
-pub fn rise_left(permitted: u128, dd: u128) -> u128 {
-    permitted - dd
+/// Q T4, the rise by the sun's heat in 10^-9 K: the heat is in mW/m and T4 in 10^-6
+/// K m/W, so that nothing is rounded. T4 is that of a cable in air, of no soil.
+pub fn solar_rise(heat: u128, t4: u128) -> u128 {
+    heat * t4
+}
+
+/// d0, the rise that there is without any current.
+pub fn rise_without_current(dd: u128, solar_rise: u128) -> u128 {
+    dd + solar_rise
+}
+
+/// N, what is left for the current. The caller has seen that d0 is smaller.
+pub fn rise_left(permitted: u128, d0: u128) -> u128 {
+    permitted - d0
 }
 
 // Stage 10: the rating.

@@ -4,8 +4,8 @@
 
 use std::f64::consts::PI;
 
-/// The fields of a case that have a meaning, in ohm/m, K m/W, V, Hz, degrees and mm;
-/// v is a ratio, 1 where no soil dries out.
+/// The fields of a case, in ohm/m, K m/W, V, Hz, degrees, mm and W/m; v is a ratio, 1
+/// where no soil dries out.
 pub struct Cable {
     pub arrangement: u32,
     pub conductor: u32,
@@ -29,6 +29,7 @@ pub struct Cable {
     pub loss_voltage: f64,
     pub v: f64,
     pub theta_x: f64,
+    pub solar_heat: f64,
 }
 
 /// Table 1: temperature coefficient at 20 degrees, per K.
@@ -91,6 +92,7 @@ impl Cable {
             loss_voltage: f64::from(f[26]),
             v: if f[27] == 0 { 1.0 } else { f64::from(f[27]) * 1e-3 },
             theta_x: degrees(f[28]),
+            solar_heat: f64::from(f[29]) * 1e-3,
         }
     }
 
@@ -203,15 +205,17 @@ impl Cable {
         self.theta_c - self.theta_a + (self.v - 1.0) * (self.theta_x - self.theta_a)
     }
 
-    /// The rating in amperes by 1.4.2.1, which with v = 1 is 1.4.1.1.
+    /// The rating in amperes: in dry soil by 1.4.2.1, in the sun, where T4 is T4* and the
+    /// heat taken up σ D*e H, by 1.4.4. With v = 1 and no heat both are 1.4.1.1.
     pub fn rating(&self) -> f64 {
         let three_cores = matches!(self.arrangement, 5 | 6);
         let n = if three_cores { 3.0 } else { 1.0 };
         let [t1, t2, t3, t4] = self.thermal;
         let r = self.ac_resistance();
+        let solar_rise = self.solar_heat * t4;
         let t4 = self.v * t4;
         let dielectric_rise = self.dielectric_loss() * (0.5 * t1 + n * (t2 + t3 + t4));
-        let left = self.permitted_rise() - dielectric_rise;
+        let left = self.permitted_rise() - dielectric_rise - solar_rise;
         let sheath = 1.0 + self.lambda1();
         let armour = sheath + self.lambda2();
         (left / (r * t1 + n * r * sheath * t2 + n * r * armour * (t3 + t4))).sqrt()

@@ -33,8 +33,8 @@ missing l = replicate (Fields.width - l.inputs) 0
 abbrev pub trailer_length : Layout → ℕ
 trailer_length l = 4 + 2 * l.width + 4
 
--- ASCII "RBK1", of books that are no longer written. Where fields 26 to 29 are zero, the dielectric loss counts at every voltage and no
--- soil dries out.
+-- ASCII "RBK1", of books that are no longer written. Where fields 26 to 29 are zero, the dielectric loss counts at every voltage, no soil
+-- dries out and no sun heats the cable.
 abbrev pub rbk1 : Layout
 rbk1 =
     record {

@@ -126,3 +126,7 @@ dry_ratio x = word x 27
 -- θx: the temperature of the critical isotherm, within which the soil dries out
 abbrev pub isotherm : List ℕ → ℤ
 isotherm x = temperature x 28
+
+-- Q: the sun's heat taken up, in mW/m
+abbrev pub solar_heat : List ℕ → ℕ
+solar_heat x = word x 29

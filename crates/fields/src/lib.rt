@@ -83,3 +83,6 @@ pub const DRY_RATIO: usize = 27;
 
 // θx: the temperature of the critical isotherm, within which the soil dries out.
 pub const ISOTHERM: usize = 28;
+
+// Q: the sun's heat taken up, in mW/m.
+pub const SOLAR_HEAT: usize = 29;

@@ -1,4 +1,5 @@
--- docs/RATING.md, stage 9: the dielectric loss, the rise that it causes, and what it leaves of the permitted rise. Assumes nothing.
+-- docs/RATING.md, stage 9: the dielectric loss, the rise that it causes, and what is left of the permitted rise for the current. Assumes
+-- nothing.
 use Rattle.std.specs.Prelude.{ℕ, ◌+◌, ◌-◌, ◌*◌, ◌^◌}
 use Rattle.exact.specs.Rounding.{up}
 use Rattle.exact.specs.Fraction.{Fraction, whole, ◌*F◌, ◌/F◌}
@@ -16,9 +17,9 @@ dielectric_resistance n t1 t2 t3 t4 = 1000 * t1 + 2 * n * (1000 * (t2 + t3) + t4
 unfoldable pub dielectric_rise : ℕ → ℕ → ℕ → ℕ → ℕ → ℕ → ℕ
 dielectric_rise n wd t1 t2 t3 t4 = up (wd * dielectric_resistance n t1 t2 t3 t4) (2 * 10 ^ 12)
 
--- the paper's N, from the permitted rise. Refusal 10 keeps dd below it.
+-- the paper's N, from the permitted rise and the paper's d0, the rise with no current. Refusal 10 keeps d0 below it.
 unfoldable pub current_rise : ℕ → ℕ → ℕ
-current_rise permitted dd = permitted - dd
+current_rise permitted d0 = permitted - d0
 
 -- from a logarithm of Di/ds itself, where l above is T times as large
 unfoldable pub dielectric_loss* : ℕ → ℕ → ℕ → Fraction → Fraction → Fraction

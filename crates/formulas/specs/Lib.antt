@@ -13,6 +13,7 @@ pub mod Sheath
 pub mod CommonSheath
 pub mod Armour
 pub mod Soil
+pub mod Sun
 pub mod Dielectric
 pub mod Rating
 pub mod Refusals

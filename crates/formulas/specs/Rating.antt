@@ -20,6 +20,6 @@ unit_rise* n r s w t1 t2 t3 t4 =
     +F whole n *F (r +F s) *F whole t2 /F whole (10 ^ 6)
     +F whole n *F (r +F s +F w) *F whole (1000 * t3 + t4) /F whole (10 ^ 9)
 
--- the exact rise at a current in mA, in 10^-9 K, from E and dd
+-- the exact rise at a current in mA, in 10^-9 K, from E and d0
 unfoldable pub rise* : Fraction → Fraction → Fraction → Fraction
-rise* I E dd = square I *F E /F whole (10 ^ 13) +F dd
+rise* I E d0 = square I *F E /F whole (10 ^ 13) +F d0

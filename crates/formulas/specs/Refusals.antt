@@ -14,9 +14,9 @@ skin_refused zs zp = ltb skin_limit zs || ltb skin_limit zp
 unfoldable pub eddy_refused : ℕ → ℕ → Bool
 eddy_refused b rs = ltb rs (5 * b)
 
--- 10: 10 dd is more than nine times the permitted rise
+-- 10: 10 d0 is more than nine times the permitted rise
 unfoldable pub dielectric_refused : ℕ → ℕ → Bool
-dielectric_refused dd permitted = ltb (9 * permitted) (10 * dd)
+dielectric_refused d0 permitted = ltb (9 * permitted) (10 * d0)
 
 -- 11: the rating would exceed 5000000 mA
 unfoldable pub current_refused : ℕ → Bool

@@ -14,6 +14,7 @@ pub mod DielectricRise
 pub mod LossVoltage
 pub mod Moist
 pub mod DrySoil
+pub mod Sun
 pub mod Older
 pub mod Logarithms
 pub mod Stage10
@@ -25,4 +26,5 @@ pub mod Margin
 pub mod Answers
 pub mod Edges
 pub mod DrySoilEdges
+pub mod SunEdges
 pub mod Instances

@@ -16,6 +16,7 @@ numbered Code.TheVariants.Stray = refl
 numbered Code.TheVariants.Geometry = refl
 numbered Code.TheVariants.Heat = refl
 numbered Code.TheVariants.Isotherm = refl
+numbered Code.TheVariants.Sun = refl
 numbered Code.TheVariants.Metal = refl
 numbered Code.TheVariants.Skin = refl
 numbered Code.TheVariants.Eddy = refl

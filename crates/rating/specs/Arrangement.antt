@@ -9,7 +9,7 @@ use Rattle.rating.specs.Within.{within}
 use Rattle.rating.specs.Values.{R, Wd, soil_T4}
 use Rattle.rating.specs.Chosen.{Chosen, R*, Wd*}
 
--- what stage 10 takes of a case beside T1 to T4 and the permitted rise
+-- what stages 9 and 10 take of a case beside T1 to T4, the permitted rise and the sun's
 pub record Numbers : Type 0 where
   pub n : ℕ
   pub R : ℕ

@@ -1,9 +1,9 @@
 -- Demand 3's exact rise of a case, in fractions and with no rounding (docs/RATING.md, 'The exact rise'). Assumes nothing.
 use Rattle.std.specs.Prelude.{List, ℕ}
-use Rattle.exact.specs.Fraction.{Fraction}
+use Rattle.exact.specs.Fraction.{Fraction, whole, ◌+F◌}
 use Rattle.formulas.specs.Rating.{unit_rise*, rise*}
 use Rattle.fields.specs.Fields as Field
-use Rattle.rating.specs.Values.{soil_T4}
+use Rattle.rating.specs.Values.{soil_T4, solar_rise_of}
 use Rattle.rating.specs.Chosen.{Chosen}
 use Rattle.rating.specs.Arrangement.{Numbers*}
 use Rattle.rating.specs.Arrangements.{own}
@@ -18,6 +18,10 @@ module _ (x : List ℕ) (c : Chosen) where
   E* =
       unit_rise* (numbers_of x).n numbers_of*.R numbers_of*.S numbers_of*.W (Field.t1 x) (Field.t2 x) (Field.t3 x) (soil_T4 x)
 
+  -- the paper's d0
+  unfoldable pub d0* : Fraction
+  d0* = numbers_of*.dd +F whole (solar_rise_of x)
+
   -- the rise of the conductor above the ambient at a current in mA, in 10^-9 K
   unfoldable pub exact_rise : Fraction → Fraction
-  exact_rise i = rise* i E* numbers_of*.dd
+  exact_rise i = rise* i E* d0*

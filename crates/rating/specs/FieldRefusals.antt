@@ -1,5 +1,5 @@
--- docs/RATING.md, 'The refusals': those that look at the fields alone, 1 to 7 and 31, each as a test that refuses; their order; and the
--- number of the first that does. Assumes nothing.
+-- docs/RATING.md, 'The refusals': those that look at the fields alone, 1 to 7, 31 and 32, each as a test that refuses; their order; and
+-- the number of the first that does. Assumes nothing.
 use Rattle.std.specs.Prelude.{Bool, not, ◌&&◌, ◌||◌, List, [], ◌∷◌, ℕ, ◌*◌, eqb, leb, pos, neg_ℤ, ◌-ℤ◌}
 use Rattle.std.specs.Int.Signed.{le_z}
 use Rattle.bools.specs.First.{Refusal, or_refused}
@@ -15,7 +15,7 @@ arrangement_refused x = not (own x).known
 unfoldable pub conductor_refused : List ℕ → Bool
 conductor_refused x = not (within 1 8 (Field.conductor x))
 
--- 3, in four groups: fields 2 to 9; 10 to 16; 22 to 25; and 26 to 28. The arrangement has the limits of fields 17 to 21.
+-- 3, in four groups: fields 2 to 9; 10 to 16; 22 to 25; and 26 to 29. The arrangement has the limits of fields 17 to 21.
 unfoldable pub conductor_limits : List ℕ → Bool
 conductor_limits x =
     within 1000 6500 (Field.frequency x)
@@ -53,6 +53,7 @@ further_limits x =
     within 0 300000 (Field.loss_voltage x)
     && (moist x || within 1000 5000 (Field.dry_ratio x))
     && within_z (neg_ℤ (pos 4000)) (pos 25000) (Field.isotherm x)
+    && within 0 200000 (Field.solar_heat x)
 
 unfoldable pub limit_refused : List ℕ → Bool
 limit_refused x =
@@ -62,13 +63,9 @@ limit_refused x =
 unfoldable pub isotherm_unused : List ℕ → Bool
 isotherm_unused x = not (moist x) || eqb (Field.word x 28) 0
 
--- field 29, which has no meaning, is zero
-unfoldable pub unassigned : List ℕ → Bool
-unassigned x = eqb (Field.word x 29) 0
-
--- 4: field 28 or 29 is not zero where it must be, or one that the arrangement does not have
+-- 4: field 28 is not zero where it must be, or one that the arrangement does not have
 unfoldable pub stray_refused : List ℕ → Bool
-stray_refused x = not (isotherm_unused x && unassigned x && (own x).unused x)
+stray_refused x = not (isotherm_unused x && (own x).unused x)
 
 -- 5: not dc ≤ ds, or 105 ds > 100 Di, or not Di ≤ d; the arrangement adds how its cores or cables lie
 unfoldable pub geometry_refused : List ℕ → Bool
@@ -94,6 +91,10 @@ isotherm_refused x =
     (moist x
     || within_z (Field.ambient_temperature x) (Field.conductor_temperature x) (Field.isotherm x))
 
+-- 32: neither ρ nor the sun's heat is 0
+unfoldable pub sun_refused : List ℕ → Bool
+sun_refused x = not (moist x || eqb (Field.solar_heat x) 0)
+
 -- 7: sheath or armour is not of the metal that the arrangement asks for
 unfoldable pub metal_refused : List ℕ → Bool
 metal_refused x = not ((own x).metal x)
@@ -108,6 +109,7 @@ field_refusals x =
     ∷ record { number = 5; given = geometry_refused x }
     ∷ record { number = 6; given = heat_refused x }
     ∷ record { number = 31; given = isotherm_refused x }
+    ∷ record { number = 32; given = sun_refused x }
     ∷ record { number = 7; given = metal_refused x }
     ∷ []
 

@@ -46,7 +46,7 @@ judged x =
     cond (skin_refused x) (refused 8)
     (cond (eddy_refused x) (refused 9) (loaded x))
 
--- refusals 1 to 7 and 31 before them. It is shut: another crate names it and cites its theorems, and sees no stage.
+-- the refusals of the fields before them. It is shut: another crate names it and cites its theorems, and sees no stage.
 pub rate_of : List ℕ → Answer
 rate_of x = cond (eqb (field_refusal x) 0) (judged x) (refused (field_refusal x))
 

@@ -9,6 +9,7 @@ use Rattle.rating.specs.declared.refusal.Refusal.TheVariants.{
   Geometry,
   Heat,
   Isotherm,
+  Sun,
   Metal,
   Skin,
   Eddy,
@@ -24,6 +25,7 @@ number_of Stray = 4
 number_of Geometry = 5
 number_of Heat = 6
 number_of Isotherm = 31
+number_of Sun = 32
 number_of Metal = 7
 number_of Skin = 8
 number_of Eddy = 9

@@ -1,4 +1,4 @@
--- docs/RATING.md, 'The refusals': all twelve of a case, in the order in which they are tried, each with its number and whether it is given.
+-- docs/RATING.md, 'The refusals': all of a case, in the order in which they are tried, each with its number and whether it is given.
 -- Assumes nothing.
 use Rattle.std.specs.Prelude.{List, ◌++◌, ℕ}
 use Rattle.bools.specs.First.{Refusal}

@@ -5,7 +5,7 @@ use Rattle.bools.specs.First.{Refusal}
 use Rattle.formulas.specs.Refusals as Test
 use Rattle.rating.specs.Values.{Rs, B, zs, zp, permitted_of}
 use Rattle.rating.specs.Arrangements.{own}
-use Rattle.rating.specs.Stage10.{numbers_of, current_of}
+use Rattle.rating.specs.Stage10.{d0, current_of}
 
 -- 8
 abbrev pub skin_refused : List ℕ → Bool
@@ -17,7 +17,7 @@ eddy_refused x = (own x).eddies && Test.eddy_refused (B x) (Rs x)
 
 -- 10
 abbrev pub dielectric_refused : List ℕ → Bool
-dielectric_refused x = Test.dielectric_refused (numbers_of x).dd (permitted_of x)
+dielectric_refused x = Test.dielectric_refused (d0 x) (permitted_of x)
 
 -- 11
 abbrev pub current_refused : List ℕ → Bool

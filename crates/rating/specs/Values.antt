@@ -9,6 +9,7 @@ use Rattle.formulas.specs.Proximity.{spacing_ratio, proximity_factor, ac_resista
 use Rattle.formulas.specs.Logarithm.{log_low}
 use Rattle.formulas.specs.Spacing.{spacing_log_high, spacing_log_low, sheath_reactance, sheath_reactance_low}
 use Rattle.formulas.specs.Soil.{soil_resistance, permitted_rise}
+use Rattle.formulas.specs.Sun.{solar_rise}
 use Rattle.formulas.specs.Dielectric.{dielectric_loss}
 use Rattle.fields.specs.Fields as Field
 
@@ -80,3 +81,7 @@ soil_T4 x = soil_resistance (Field.dry_ratio x) (Field.t4 x)
 
 unfoldable pub permitted_of : List ℕ → ℕ
 permitted_of x = permitted_rise (Field.dry_ratio x) (rise_of x) (isotherm_rise_of x)
+
+-- the rise of the conductor by the sun's heat, in 10^-9 K
+unfoldable pub solar_rise_of : List ℕ → ℕ
+solar_rise_of x = solar_rise (Field.solar_heat x) (Field.t4 x)

@@ -1,4 +1,4 @@
-// A case that refusals 1 to 7 and 31 let pass, and what the stages take of it: its resistances, its rise, B and its z.
+// A case that the refusals of the fields let pass, and what the stages take of it: its resistances, its rise, B and its z.
 ghost use Rattle.std.specs.Prelude.{◌≡◌, ◌≤◌, ◌-ℤ◌, nat_abs};
 ghost use Rattle.std.specs.Int.{w32};
 ghost use Rattle.std.proofs.Common.{to_z};

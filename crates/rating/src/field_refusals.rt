@@ -1,4 +1,4 @@
-// Refusals 2 to 7 and 31, which look at the fields alone: a test for each, and the first that is given.
+// The refusals that look at the fields alone, but for 1: a test for each, and the first that is given.
 ghost use Rattle.std.specs.Prelude.{◌≡◌, pos, ◌-ℤ◌};
 ghost use Rattle.std.specs.Int.Signed.{le_z};
 ghost use Rattle.std.specs.Int.{w32};
@@ -15,7 +15,7 @@ use fields::{
     AMBIENT_TEMPERATURE, CONDUCTOR, CONDUCTOR_DIAMETER, CONDUCTOR_RESISTANCE,
     CONDUCTOR_TEMPERATURE, Case, DRY_RATIO, FREQUENCY, INSULATION_DIAMETER, ISOTHERM, LOSS_FACTOR,
     LOSS_VOLTAGE, PERMITTIVITY, SCREEN_DIAMETER, SHEATH_DIAMETER, SHEATH_METAL, SHEATH_RESISTANCE,
-    SHEATH_TEMPERATURE, SPACING, T1, T2, T3, T4, VOLTAGE,
+    SHEATH_TEMPERATURE, SOLAR_HEAT, SPACING, T1, T2, T3, T4, VOLTAGE,
 };
 use stages::resistance::signed;
 
@@ -107,6 +107,7 @@ fn further_limits(x: Case) -> bool
     within(0, 300000, x[LOSS_VOLTAGE])
         & (moist(x) | within(1000, 5000, x[DRY_RATIO]))
         & within_signed(-4000, 25000, x[ISOTHERM])
+        & within(0, 200000, x[SOLAR_HEAT])
 }
 
 // `its` is what the arrangement answered, a value and no switch.
@@ -126,20 +127,12 @@ fn isotherm_unused(x: Case) -> bool
     !moist(x) | (x[ISOTHERM] == 0)
 }
 
-// Field 29, which has no meaning, is zero.
-#[tactic(auto, unfolding(crate::specs::FieldRefusals::unassigned))]
-fn unassigned(x: Case) -> bool
-    ensures { result ≡ FieldRefusals.unassigned x }
-{
-    x[29] == 0
-}
-
 #[tactic(auto, unfolding(crate::specs::FieldRefusals::stray_refused))]
 fn stray_refused(x: Case, its: bool) -> bool
     requires { its ≡ (own x).unused x }
     ensures { result ≡ FieldRefusals.stray_refused x }
 {
-    !(isotherm_unused(x) & unassigned(x) & its)
+    !(isotherm_unused(x) & its)
 }
 
 #[tactic(auto, unfolding(crate::specs::FieldRefusals::geometry_refused))]
@@ -172,6 +165,13 @@ fn isotherm_refused(x: Case) -> bool
     !(moist(x) | within_signed(ambient, conductor, x[ISOTHERM]))
 }
 
+#[tactic(auto, unfolding(crate::specs::FieldRefusals::sun_refused))]
+fn sun_refused(x: Case) -> bool
+    ensures { result ≡ FieldRefusals.sun_refused x }
+{
+    !(moist(x) | (x[SOLAR_HEAT] == 0))
+}
+
 // The first that is given, in the order in which they are tried.
 #[tactic(auto, unfolding(bools::specs::First::or_refused, crate::specs::FieldRefusals::field_refusals))]
 pub(crate) fn check_fields(x: Case, rules: Rules) -> Result<(), Refusal>
@@ -195,6 +195,9 @@ pub(crate) fn check_fields(x: Case, rules: Rules) -> Result<(), Refusal>
     }
     if isotherm_refused(x) {
         return Err(Refusal::Isotherm);
+    }
+    if sun_refused(x) {
+        return Err(Refusal::Sun);
     }
     if !rules.metal {
         return Err(Refusal::Metal);

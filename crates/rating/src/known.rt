@@ -1,4 +1,4 @@
-// A case whose arrangement is known, since refusal 1 lets it pass; and refusals 2 to 7 and 31 of it, with what its arrangement asks.
+// A case whose arrangement is known, since refusal 1 lets it pass; and the other refusals of the fields, with what its arrangement asks.
 ghost use Rattle.std.specs.Prelude.{◌≡◌, IfOk, IfErr};
 ghost use Rattle.rating.specs.Arrangements.{own};
 ghost use Rattle.rating.specs.Kind.{arrangement_as};

@@ -18,3 +18,4 @@ pub mod refusal;
 mod sheath_reactance;
 mod sl_type;
 mod soil;
+mod sun;

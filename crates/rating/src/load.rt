@@ -1,4 +1,4 @@
-// Stage 10 on a case that refusals 1 to 9 and 31 let pass: refusals 10 and 11, or the rating and the sheet.
+// Stage 10 on a case that every refusal before 10 lets pass: refusals 10 and 11, or the rating and the sheet.
 ghost use Rattle.std.specs.Prelude.{◌≡◌};
 ghost use Rattle.rating.specs.Arrangements.{own};
 ghost use Rattle.rating.specs.Laws.Steps.{IsThermal, Loses, Warms};
@@ -26,11 +26,11 @@ impl FitCase {
     }
 
     // Stage 10, where refusal 10 was not given.
-    fn current(&self, permitted: u64, dd: u64, e: u64) -> u64
-        requires { Warms self.now.case.x permitted dd e }
+    fn current(&self, permitted: u64, d0: u64, e: u64) -> u64
+        requires { Warms self.now.case.x permitted d0 e }
         ensures { result ≡ current_of self.now.case.x }
     {
-        rating(permitted - dd, e)
+        rating(permitted - d0, e)
     }
 
     pub(crate) fn loaded(&self) -> Result<Rated, Refusal>
@@ -39,12 +39,14 @@ impl FitCase {
         let l = self.case.kind.losses(self);
         let t = self.case.thermal();
         let dd = self.dielectric_rise(l.n, t);
+        // the rise with no current; the sheet keeps dd
+        let d0 = dd + self.case.solar_rise();
         let permitted = self.case.permitted();
-        if 9 * permitted < 10 * dd {
+        if 9 * permitted < 10 * d0 {
             return Err(Refusal::Dielectric);
         }
         let e = self.unit_rise(l, t);
-        let i = self.current(permitted, dd, e);
+        let i = self.current(permitted, d0, e);
         if MOST_CURRENT < i {
             return Err(Refusal::Current);
         }

@@ -1,5 +1,5 @@
-// The rating of a case of any 30 words, in four steps: `of` tries refusal 1, `checked` 2 to 7 and 31, `judged` 8 and 9, and `loaded` 10
-// and 11. Each refuses the case, or hands it on as a type that keeps what is then known of it.
+// The rating of a case of any 30 words, in four steps: `of` tries refusal 1, `checked` the others of the fields, `judged` 8 and 9, and
+// `loaded` 10 and 11. Each refuses the case, or hands it on as a type that keeps what is then known of it.
 ghost use Rattle.std.specs.Prelude.{◌≡◌};
 ghost use Rattle.rating.specs.Rate.{answer_of, rate_of};
 

@@ -53,7 +53,8 @@ enum {
     SHEAFDAWN_FIELD_T4 = 25,                    /* cable surface to ambient */
     SHEAFDAWN_FIELD_LOSS_VOLTAGE = 26,          /* the U0 from which the dielectric loss counts */
     SHEAFDAWN_FIELD_DRY_RATIO = 27,             /* rho, dry over moist soil's resistivity in thousandths; 0: no soil dries out */
-    SHEAFDAWN_FIELD_ISOTHERM = 28               /* theta_x, the critical isotherm's temperature; 0 where rho is 0; field 29 is 0 */
+    SHEAFDAWN_FIELD_ISOTHERM = 28,              /* theta_x, the critical isotherm's temperature; 0 where rho is 0 */
+    SHEAFDAWN_FIELD_SOLAR_HEAT = 29             /* Q, the sun's heat taken up in mW/m, T4 then adjusted for it; 0 where rho is not 0 */
 };
 
 /* The fields of a record behind those of its case. */
@@ -90,7 +91,7 @@ enum {
     SHEAFDAWN_SHEET_E = 13     /* E, rise by the current / I^2 */
 };
 
-/* The refusals: of a case, 1 to 11 and 31 (docs/RATING.md), in the order in which they are tried; of a book, 20 to 26 (docs/BOOK.md). */
+/* The refusals: of a case, 1 to 11, 31 and 32 (docs/RATING.md), in the order of trial; of a book, 20 to 26 (docs/BOOK.md). */
 enum {
     SHEAFDAWN_REFUSAL_ARRANGEMENT = 1,
     SHEAFDAWN_REFUSAL_CONDUCTOR = 2,
@@ -99,6 +100,7 @@ enum {
     SHEAFDAWN_REFUSAL_GEOMETRY = 5,
     SHEAFDAWN_REFUSAL_HEAT = 6,
     SHEAFDAWN_REFUSAL_ISOTHERM = 31,
+    SHEAFDAWN_REFUSAL_SUN = 32,
     SHEAFDAWN_REFUSAL_METAL = 7,
     SHEAFDAWN_REFUSAL_SKIN = 8,
     SHEAFDAWN_REFUSAL_EDDY = 9,
@@ -123,6 +125,7 @@ static inline const char *sheafdawn_word(uint32_t refusal) {
     case SHEAFDAWN_REFUSAL_GEOMETRY: return "geometry";
     case SHEAFDAWN_REFUSAL_HEAT: return "heat";
     case SHEAFDAWN_REFUSAL_ISOTHERM: return "isotherm";
+    case SHEAFDAWN_REFUSAL_SUN: return "sun";
     case SHEAFDAWN_REFUSAL_METAL: return "metal";
     case SHEAFDAWN_REFUSAL_SKIN: return "skin";
     case SHEAFDAWN_REFUSAL_EDDY: return "eddy";

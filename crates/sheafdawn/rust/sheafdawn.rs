@@ -67,8 +67,10 @@ pub mod field {
     pub const LOSS_VOLTAGE: usize = 26;
     /// rho, dry over moist soil's resistivity in thousandths; 0: no soil dries out
     pub const DRY_RATIO: usize = 27;
-    /// theta_x, the critical isotherm's temperature; 0 where rho is 0; field 29 is 0
+    /// theta_x, the critical isotherm's temperature; 0 where rho is 0
     pub const ISOTHERM: usize = 28;
+    /// Q, the sun's heat taken up in mW/m, T4 then adjusted for it; 0 where rho is not 0
+    pub const SOLAR_HEAT: usize = 29;
 }
 
 /// The fields of a record behind those of its case.
@@ -135,6 +137,7 @@ pub mod refusal {
     pub const GEOMETRY: u32 = 5;
     pub const HEAT: u32 = 6;
     pub const ISOTHERM: u32 = 31;
+    pub const SUN: u32 = 32;
     pub const METAL: u32 = 7;
     pub const SKIN: u32 = 8;
     pub const EDDY: u32 = 9;
@@ -159,6 +162,7 @@ pub fn word(refusal: u32) -> &'static str {
         refusal::GEOMETRY => "geometry",
         refusal::HEAT => "heat",
         refusal::ISOTHERM => "isotherm",
+        refusal::SUN => "sun",
         refusal::METAL => "metal",
         refusal::SKIN => "skin",
         refusal::EDDY => "eddy",

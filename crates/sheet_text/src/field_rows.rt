@@ -18,8 +18,8 @@ enum Form {
     Code(&'static [&'static str]),
 }
 
-// A row of the sheet, and the arrangements that have it: only the SL type has armour, c is the
-// distance of a core's axis from that of a cable with three cores, and none has field 29.
+// A row of the sheet, and the arrangements that have it: only the SL type has armour, and c is the
+// distance of a core's axis from that of a cable with three cores.
 struct Field {
     label: Label,
     form: Form,
@@ -76,7 +76,7 @@ const FIELDS: [Field; WIDTH] = [
     field!("  Ud", "V", "dielectric loss counts from [0 to 300000]", 0; Form::Plain, &ALL),
     field!("  rho", "", "dry to moist soil resistivity [1 to 5, 0 for none]", 3; Form::Plain, &ALL),
     field!("  theta_x", "deg C", "critical isotherm, if rho is not 0 [-40 to 250]", 2; Form::Signed, &ALL),
-    field!("  field 29", "", "must be 0", 0; Form::Plain, &[]),
+    field!("  Q", "W/m", "sun's heat taken up [0 to 200]", 3; Form::Plain, &ALL),
 ];
 
 // A field in its unit.

@@ -13,6 +13,7 @@ fn word_of(refusal: Refusal) -> &'static str {
         Refusal::Geometry => "geometry",
         Refusal::Heat => "heat",
         Refusal::Isotherm => "isotherm",
+        Refusal::Sun => "sun",
         Refusal::Metal => "metal",
         Refusal::Skin => "skin",
         Refusal::Eddy => "eddy",
@@ -29,13 +30,14 @@ fn rule_of(refusal: Refusal) -> &'static str {
             "A field is outside its limits, which stand in brackets (the armour's hold in arrangement 5, c's in 5 and 6).",
         Refusal::Stray =>
             "Only arrangement 5 has armour: in the others armour, RA0, theta_A and dA must be 0, and in 1 to 4 also c. \
-             In all, field 29 must be 0, and theta_x where rho is 0.",
+             In all, theta_x must be 0 where rho is 0.",
         Refusal::Geometry =>
             "It must be that dc <= ds, 1.05 ds <= Di and Di <= d; also d <= s in arrangements 1 to 5, \
              2 c <= dA in 5, dc <= s and 2 c <= d in 6.",
         Refusal::Heat =>
             "The conductor must be 5 K or more above the ambient, and neither sheath nor armour above it.",
         Refusal::Isotherm => "Where rho is not 0 it must be that theta_a <= theta_x <= theta_c.",
+        Refusal::Sun => "A cable in soil that dries out is not in the sun: rho or Q must be 0.",
         Refusal::Metal =>
             "The sheath must be lead in arrangements 3, 4 and 5, and the armour steel in 5.",
         Refusal::Skin =>
@@ -43,7 +45,7 @@ fn rule_of(refusal: Refusal) -> &'static str {
         Refusal::Eddy =>
             "In arrangements 3 and 4 the eddy formula ends where Rs is 5 B, with B = 4 pi f / 10^7.",
         Refusal::Dielectric =>
-            "The dielectric loss alone takes over nine tenths of the permitted rise.",
+            "The dielectric loss and the sun together take over nine tenths of the permitted rise.",
         Refusal::Current => "The rating would be over 5000 A.",
     }
 }

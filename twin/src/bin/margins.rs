@@ -1,15 +1,16 @@
-// margins: draws rated cases, of any arrangement or of one, in any soil or only in
-// soil that dries out, and measures by exact fractions how far each is from the two
-// bounds on its rating. A case that breaks a bound is printed as its numbers. The
-// same seed gives the same cases.
+// margins: draws rated cases, of any arrangement or of one, in any surroundings or only
+// in soil that dries out or in the sun, and measures by exact fractions how far each
+// is from the two bounds on its rating. A case that breaks a bound is printed as its
+// numbers. The same seed gives the same cases.
 
 use std::cmp::Ordering;
 use std::process::ExitCode;
+use twin::cable::Cable;
 use twin::dice::Dice;
-use twin::drawn_cases::{rated_case, rated_case_of, rated_dry_case};
+use twin::drawn_cases::{rated_case_of, Surroundings};
 use twin::lines::case_line;
 use twin::margins::{margins, Margins};
-use twin::rating::{dry_soil, limits, loss_counts, Rated, Words};
+use twin::rating::{dry_soil, in_the_sun, limits, loss_counts, Rated, Words};
 use twin::stages::LARGEST_RS_OF_SUM;
 
 /// How many lines of progress a run writes on standard error.
@@ -26,14 +27,15 @@ struct Asked {
     seed: u32,
     count: u64,
     arrangement: Option<i64>,
-    only_dry: bool,
+    surroundings: Surroundings,
 }
 
 impl Asked {
     fn read(words: &[String]) -> Option<Asked> {
-        let (words, only_dry) = match words {
-            [words @ .., last] if last == "dry" => (words, true),
-            _ => (words, false),
+        let (words, surroundings) = match words {
+            [words @ .., last] if last == "dry" => (words, Surroundings::DrySoil),
+            [words @ .., last] if last == "sun" => (words, Surroundings::Sun),
+            _ => (words, Surroundings::Any),
         };
         let (seed, count, arrangement) = match words {
             [seed, count] => (seed, count, None),
@@ -43,15 +45,11 @@ impl Asked {
         let (first, last) = limits(0);
         let known = arrangement.is_none_or(|number| (first..=last).contains(&number));
         let (seed, count) = (seed.parse().ok()?, count.parse().ok()?);
-        known.then_some(Asked { seed, count, arrangement, only_dry })
+        known.then_some(Asked { seed, count, arrangement, surroundings })
     }
 
     fn draw(&self, dice: &mut Dice) -> (Words, Rated) {
-        match self.arrangement {
-            _ if self.only_dry => rated_dry_case(self.arrangement, dice),
-            Some(arrangement) => rated_case_of(arrangement, dice),
-            None => rated_case(dice),
-        }
+        rated_case_of(self.arrangement, self.surroundings, dice)
     }
 }
 
@@ -99,6 +97,41 @@ impl Soils {
     }
 }
 
+/// Of cases in the sun, how many there are at each end of what its heat may be and
+/// between; and how many whose d0 is close to the nine tenths of the permitted rise that
+/// refusal 10 lets pass, how many of these without a dielectric loss, and how many at it.
+#[derive(Default)]
+struct Suns {
+    heats: [u64; 3],
+    close: u64,
+    close_alone: u64,
+    at: u64,
+}
+
+impl Suns {
+    fn count(&mut self, case: &Words) {
+        if !in_the_sun(case) {
+            return;
+        }
+        self.heats[third(case[29], 1, limits(29).1 as u32)] += 1;
+        let cable = Cable::of(case);
+        let (d0, permitted) = (cable.rise_without_current(), cable.permitted_rise());
+        if 1000 * d0 >= 899 * permitted {
+            self.close += 1;
+            self.close_alone += u64::from(cable.dielectric().1 == 0);
+            self.at += u64::from(10 * d0 == 9 * permitted);
+        }
+    }
+
+    fn report(&self) {
+        let Suns { heats: [least, between, most], close, close_alone, at } = self;
+        println!("the sun heats {}:", least + between + most);
+        println!("  Q is 1 in {least}, 200000 in {most}, between in {between}");
+        println!("  d0 is 0.899 to 0.9 of P in {close}, 0.9 of it in {at}");
+        println!("  without a dielectric loss in {close_alone} of these {close}");
+    }
+}
+
 /// How many common sheaths took either formula, below and at the last Rs of the
 /// first one or above it, and how near they came.
 fn report_formulas(resistances: &[u64]) {
@@ -119,12 +152,13 @@ fn measure(asked: &Asked) -> u64 {
     let mut all = Margins::none();
     let (mut without_loss, mut broken) = (0, 0);
     let mut resistances = Vec::new();
-    let mut soils = Soils::default();
+    let (mut soils, mut suns) = (Soils::default(), Suns::default());
     for done in 1..=asked.count {
         let (case, rated) = asked.draw(&mut dice);
         resistances.push(rated.sheet[RS]);
         without_loss += u64::from(!loss_counts(&case));
         soils.count(&case);
+        suns.count(&case);
         match margins(&case, &rated) {
             Some(margins) => all = all.join(&margins),
             None => {
@@ -138,6 +172,7 @@ fn measure(asked: &Asked) -> u64 {
     }
     report(asked.count, without_loss, broken, &all);
     soils.report();
+    suns.report();
     if asked.arrangement == Some(OF_TWO_FORMULAS) {
         report_formulas(&resistances);
     }
@@ -147,7 +182,7 @@ fn measure(asked: &Asked) -> u64 {
 fn main() -> ExitCode {
     let words: Vec<String> = std::env::args().skip(1).collect();
     let Some(asked) = Asked::read(&words) else {
-        eprintln!("usage: margins SEED COUNT [ARRANGEMENT] [dry]");
+        eprintln!("usage: margins SEED COUNT [ARRANGEMENT] [dry|sun]");
         return ExitCode::FAILURE;
     };
     if measure(&asked) == 0 {

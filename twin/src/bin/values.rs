@@ -87,7 +87,7 @@ fn show_armour(ra: u128, rs: u128, x_low: u128) -> u128 {
     after
 }
 
-/// Stage 9: N.
+/// Stage 9: N, in the shade, where d0 is dd.
 fn show_dielectric() -> u128 {
     let low = stages::log_low(3600, 1750);
     let insulation =

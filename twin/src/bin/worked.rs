@@ -5,7 +5,7 @@
 use std::fmt::Display;
 use twin::cable::Cable;
 use twin::rating::{rate, value, Rated, Words, WIDTH};
-use twin::sample_cables::{COMMON_ALUMINIUM_SHEATH, COMMON_SHEATH, DRY_SOIL};
+use twin::sample_cables::{COMMON_ALUMINIUM_SHEATH, COMMON_SHEATH, DRY_SOIL, IN_THE_SUN};
 use twin::stages::{self, Insulation, Thermal, LN_2_HIGH, LN_2_LOW, MOIST, T};
 use twin::tables;
 use twin::whole::{down, up};
@@ -46,7 +46,7 @@ const FIELD_NAMES: [&str; WIDTH] = [
     "Ud",
     "ρ",
     "θx",
-    "field-29",
+    "Q",
 ];
 
 const THERMAL: Thermal = Thermal {
@@ -258,7 +258,7 @@ fn show_dielectric_loss(b: u128, l: u128) -> u128 {
     shown("Wd", stages::dielectric_loss(&insulation, b))
 }
 
-/// A cable in its soil, with what its numbers' names end in.
+/// A cable in its surroundings, with what its numbers' names end in.
 struct Laid {
     case: Words,
     thermal: Thermal,
@@ -267,6 +267,7 @@ struct Laid {
 
 const MOIST_SOIL: Laid = Laid { case: CASE, thermal: THERMAL, end: "" };
 const DRIED_SOIL: Laid = Laid { case: DRY_CASE, thermal: DRY_THERMAL, end: ".dry" };
+const SUN: Laid = Laid { case: IN_THE_SUN, thermal: THERMAL, end: ".sun" };
 
 impl Laid {
     /// Shows a number and hands it on.
@@ -285,17 +286,31 @@ impl Laid {
         dd
     }
 
-    /// N.
-    fn show_rise_left(&self, dd: u128) -> u128 {
+    /// Q T4, which is 0 in the shade.
+    fn solar_rise(&self) -> u128 {
+        stages::solar_rise(self.case[29].into(), self.thermal.t4)
+    }
+
+    /// d0.
+    fn show_rise_without_current(&self, dd: u128) -> u128 {
+        self.shown("d0", stages::rise_without_current(dd, self.solar_rise()))
+    }
+
+    /// P.
+    fn permitted_rise(&self) -> u128 {
         let [rise, isotherm_rise] = [3, 28].map(|field| {
             // An isotherm without dry soil is 0, and adds nothing.
             u128::try_from(value(&self.case, field) - value(&self.case, 4)).unwrap_or(0)
         });
-        let ratio = self.thermal.soil_ratio;
-        let permitted = self.shown("P", stages::permitted_rise(rise, ratio, isotherm_rise));
+        let permitted = stages::permitted_rise(rise, self.thermal.soil_ratio, isotherm_rise);
         assert_eq!(permitted, Cable::of(&self.case).permitted_rise());
-        let n_left = self.shown("N", stages::rise_left(permitted, dd));
-        self.shown("10dd", 10 * dd);
+        permitted
+    }
+
+    /// N.
+    fn show_rise_left(&self, permitted: u128, d0: u128) -> u128 {
+        let n_left = self.shown("N", stages::rise_left(permitted, d0));
+        self.shown("10d0", 10 * d0);
         self.shown("9P", 9 * permitted);
         n_left
     }
@@ -330,9 +345,19 @@ impl Laid {
     /// From Wd to I: dd, E and I.
     fn show_rating(&self, wd: u128, ohms: [u128; 3]) -> [u128; 3] {
         let dd = self.show_dielectric_rise(wd);
-        let n_left = self.show_rise_left(dd);
+        let d0 = self.show_rise_without_current(dd);
+        let permitted = self.shown("P", self.permitted_rise());
+        let n_left = self.show_rise_left(permitted, d0);
         let e = self.show_effective_resistance(ohms);
         [dd, e, self.show_current(n_left, e)]
+    }
+
+    /// From dd and E, which are those of the shade, to I.
+    fn show_rating_in_sun(&self, [dd, e]: [u128; 2]) -> u128 {
+        self.shown("QT4", self.solar_rise());
+        let d0 = self.show_rise_without_current(dd);
+        let n_left = self.show_rise_left(self.permitted_rise(), d0);
+        self.show_current(n_left, e)
     }
 }
 
@@ -348,16 +373,20 @@ fn show_cable() {
     let w = show_screened(show_unscreened(ra, b), x_low, rs);
     let wd = show_dielectric_loss(b, logs[2]);
     let [dd, e, current] = MOIST_SOIL.show_rating(wd, [r, s, w]);
-    let sheet =
-        |dd, e| [rc, rs, ra, b, ys, yp, r, x, s, w, wd, dd, e].map(|number: u128| number as u64);
     // The steps above are those that `rate` takes.
-    let rated = Rated { answer: 0, rating: current as u32, sheet: sheet(dd, e) };
-    assert_eq!(rate(&CASE), rated);
+    let rated = |dd, e, current| Rated {
+        answer: 0,
+        rating: current as u32,
+        sheet: [rc, rs, ra, b, ys, yp, r, x, s, w, wd, dd, e].map(|number: u128| number as u64),
+    };
+    assert_eq!(rate(&CASE), rated(dd, e, current));
     show("ρ.dry", DRY_CASE[27]);
     show("θx.dry", value(&DRY_CASE, 28));
-    let [dd, e, current] = DRIED_SOIL.show_rating(wd, [r, s, w]);
-    let rated = Rated { answer: 0, rating: current as u32, sheet: sheet(dd, e) };
-    assert_eq!(rate(&DRY_CASE), rated);
+    let [dry_dd, dry_e, dry_current] = DRIED_SOIL.show_rating(wd, [r, s, w]);
+    assert_eq!(rate(&DRY_CASE), rated(dry_dd, dry_e, dry_current));
+    show("Q.sun", IN_THE_SUN[29]);
+    let current = SUN.show_rating_in_sun([dd, e]);
+    assert_eq!(rate(&IN_THE_SUN), rated(dd, e, current));
 }
 
 // The stages that the cable above does not use.

@@ -1,5 +1,5 @@
 // Refusal 11: ratings of the last mA up to 5000 A, and cases that would be
-// rated at the first mA above, in moist soil and in soil that dries out.
+// rated at the first mA above, in moist soil, in soil that dries out and in the sun.
 
 use super::{Edge, Group};
 use crate::cable::Cable;
@@ -35,7 +35,8 @@ fn at_current(cable: &Words, wanted: u128) -> Option<Words> {
 pub fn current() -> Group {
     let mut edges = Vec::new();
     let dry = ALL.map(|cable| with(&cable, &[(27, 2500), (28, 6000)]));
-    for cable in ALL.into_iter().chain(dry) {
+    let sunny = ALL.map(|cable| with(&cable, &[(29, 200_000)]));
+    for cable in ALL.into_iter().chain(dry).chain(sunny) {
         for distance in -AROUND..=AROUND {
             let wanted = CURRENT_LIMIT.saturating_add_signed(distance);
             let case = at_current(&strong(&cable), wanted).expect("some ambient has the current");

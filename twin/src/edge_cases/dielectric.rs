@@ -1,4 +1,5 @@
-// Refusal 10 at equality, 10 dd = 9 x 10^7 (θc - θa), and one above it.
+// Refusal 10 at equality, 10 dd = 9 x 10^7 (θc - θa), and one above it, in the shade;
+// and how such cases are found there and in the sun.
 
 use super::{Edge, Group};
 use crate::cable::Cable;
@@ -6,11 +7,11 @@ use crate::rating::{limits, Words};
 use crate::sample_cables::{with, ALL};
 use crate::turning::first;
 
-/// How far dd lies above the largest that passes, in 10^-9 K.
+/// How far d0 lies above the largest that passes, in 10^-9 K.
 fn above_limit(case: &Words) -> i128 {
     let cable = Cable::of(case);
     // The permitted rise is a whole number of 10^-5 K.
-    cable.dielectric().1 as i128 - 9 * (cable.permitted_rise() / 10) as i128
+    cable.rise_without_current() as i128 - 9 * (cable.permitted_rise() / 10) as i128
 }
 
 /// A cable of the least rise and the largest thermal resistances, of which T1
@@ -22,8 +23,8 @@ pub fn fine(cable: &Words) -> Words {
     with(&case, &[(25, 20_000_000)])
 }
 
-/// The first case, by its voltage, whose dd lies so far above the limit. dd
-/// grows with the voltage and with T1.
+/// The first case, by its voltage, whose d0 lies so far above the limit. dd, and so
+/// d0, grows with the voltage and with T1.
 pub fn at_distance(cable: &Words, distance: i128) -> Option<Words> {
     let reaches = |case: &Words| above_limit(case) >= distance;
     let lowest = first(cable, 10, reaches)?;

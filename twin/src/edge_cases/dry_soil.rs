@@ -89,19 +89,6 @@ pub fn isotherm_limits() -> Group {
     Group { remark: "θx at -4000 and 25000 and one beyond, with v and without.", edges }
 }
 
-/// The field without a meaning, with v and without.
-pub fn stray() -> Group {
-    let mut edges = Vec::new();
-    for cable in cables() {
-        for moist_or_dry in [cable, soil(&cable, 2500, 3000)] {
-            for word in [1, 1 << 31, u32::MAX] {
-                edges.push(Edge { case: with(&moist_or_dry, &[(29, word)]), answer: 4 });
-            }
-        }
-    }
-    Group { remark: "The field without a meaning, not zero.", edges }
-}
-
 /// The isotherm from one below the ambient to one above the conductor.
 fn about_both(cable: &Words, v: u32) -> [Edge; 7] {
     let (conductor, ambient) = (cable[3] as i32, cable[4] as i32);

@@ -1,6 +1,6 @@
 // Every field from 2 to 26 at both of its limits, which pass refusal 3, and one
-// beyond; dry_soil.rs has the two after them. The other fields are such that the
-// case at the limit is rated wherever it can be, so that a limit stated one off
+// beyond; dry_soil.rs and sun.rs have those after them. The other fields are such that
+// the case at the limit is rated wherever it can be, so that a limit stated one off
 // changes the answer from a refusal to a rating or the other way round.
 
 use super::{Edge, Group};

@@ -1,6 +1,6 @@
 // Cases in which two refusals hold at once, so that the earlier is answered:
-// every pair of refusals 1 to 11 and 31, and every pair of those that a cable with a
-// common sheath can get. A test asks both tests by themselves.
+// every pair of refusals 1 to 11, 31 and 32, and every pair of those that a cable with
+// a common sheath can get. A test asks both tests by themselves.
 //
 // Some pairs cannot hold as the documents state the tests, but the case is kept,
 // since the later test holds once the arrangement or the conductor code is put
@@ -8,8 +8,10 @@
 // 1 with 4, 7 and 9, which are stated for some of arrangements 1 to 6 only;
 // 1 with 11, as stage 7 is stated for arrangements 1 to 6;
 // 2 with 8 and 11, as ks, kp and the temperature coefficient are for codes 1 to 8.
-// 3 by the loss voltage is not with 10: beyond its limits it is above every U0, so
-// that the loss does not count. 4 by the isotherm is not with 31, which asks for a v.
+// 3 by the loss voltage is not with 10 by the loss: beyond its limits it is above every
+// U0, so that the loss does not count. 4 by the isotherm is not with 31 and 32, which
+// ask for a v. 10 by the sun is not with 11: the thermal resistances by which a current
+// is too large leave the sun little.
 
 use super::{Edge, Group};
 use crate::rating::{holds, Words};
@@ -23,7 +25,7 @@ type Bring = (u32, Changes);
 const COLD: u32 = (-4000i32) as u32;
 
 /// The order in which the refusals are tried, as document 02 has it.
-pub const ORDER: [u32; 12] = [1, 2, 3, 4, 5, 6, 31, 7, 8, 9, 10, 11];
+pub const ORDER: [u32; 13] = [1, 2, 3, 4, 5, 6, 31, 32, 7, 8, 9, 10, 11];
 
 fn place(refusal: u32) -> usize {
     ORDER.iter().position(|&number| number == refusal).expect("a refusal of a case")
@@ -32,7 +34,7 @@ fn place(refusal: u32) -> usize {
 /// Changes to the trefoil bonded at one point that bring about each refusal,
 /// chosen so that they hardly disturb one another. The pairs apply the later
 /// refusal's changes first, so 8's lower R0 stands over 11's.
-pub const BRINGS: [Bring; 12] = [
+pub const BRINGS: [Bring; 13] = [
     (1, &[(0, 7)]),
     (2, &[(1, 9)]),
     (3, &[(11, 801)]),
@@ -40,6 +42,7 @@ pub const BRINGS: [Bring; 12] = [
     (5, &[(6, 2841)]),
     (6, &[(16, 8501)]),
     HOT_ISOTHERM,
+    SUN_ON_DRY_SOIL,
     (7, &[(14, 3)]),
     (8, &[(5, 5000)]),
     (9, &[(15, 1000)]),
@@ -59,7 +62,7 @@ const BY_CORE_OR_ARMOUR: [(u32, Changes, Changes); 4] = [
 /// As BRINGS, for the cable with a common sheath, which may be of any metal and
 /// any resistance, so that 7 and 9 cannot hold. 8's frequency and R0 stand over
 /// 11's.
-pub const COMMON_BRINGS: [Bring; 10] = [
+pub const COMMON_BRINGS: [Bring; 11] = [
     (1, &[(0, 7)]),
     (2, &[(1, 9)]),
     (3, &[(11, 801)]),
@@ -67,6 +70,7 @@ pub const COMMON_BRINGS: [Bring; 10] = [
     (5, &[(6, 1971)]),
     (6, &[(16, 9001)]),
     HOT_ISOTHERM,
+    SUN_ON_DRY_SOIL,
     (8, &[(2, 6500), (5, 5000)]),
     (10, &[(9, 2099), (10, 300_000), (11, 800), (12, 10000)]),
     (11, &[(2, 1000), (4, COLD), (5, 5000), (15, 20_000_000), (22, 1000), (24, 0), (25, 10000)]),
@@ -84,36 +88,51 @@ const SOIL_RATIO: Bring = (3, &[(27, 5001)]);
 const ISOTHERM_BEYOND: Bring = (3, &[(27, 2000), (28, 25001)]);
 /// The same without a v.
 const ISOTHERM_BEYOND_ALONE: Bring = (3, &[(28, 25001)]);
+const HEAT_BEYOND: Bring = (3, &[(29, 200_001)]);
 const STRAY_ISOTHERM: Bring = (4, &[(28, 5000)]);
-const UNASSIGNED: Bring = (4, &[(29, 1)]);
 /// Hotter than any conductor that is not the hottest.
 const HOT_ISOTHERM: Bring = (31, &[(27, 2000), (28, 25000)]);
 /// Colder than any ambient that is not the coldest, with a v of moist soil.
 const COLD_ISOTHERM: Bring = (31, &[(27, 1000), (28, COLD)]);
+/// The least heat.
+const SUN_ON_DRY_SOIL: Bring = (32, &[(27, 2000), (28, 5000), (29, 1)]);
+/// The most, with a v of moist soil.
+const SUN_ON_MOIST_SOIL: Bring = (32, &[(27, 1000), (28, 3000), (29, 200_000)]);
+const MOST_SUN: Bring = (10, &[(29, 200_000)]);
 
 /// Each with the refusals of other changes that it cannot hold together with, or only
-/// in another's case: 11's make the ambient the coldest.
-const ALIKE: [(Bring, &[u32]); 7] = [
+/// in another's case: 11's make the ambient the coldest, and those of 31 and 32 make a
+/// dry zone or another heat.
+const ALIKE: [(Bring, &[u32]); 9] = [
     (LOSS_VOLTAGE, &[10]),
     (SOIL_RATIO, &[]),
     (ISOTHERM_BEYOND, &[]),
-    (ISOTHERM_BEYOND_ALONE, &[31]),
-    (STRAY_ISOTHERM, &[31]),
-    (UNASSIGNED, &[]),
+    (ISOTHERM_BEYOND_ALONE, &[31, 32]),
+    (HEAT_BEYOND, &[]),
+    (STRAY_ISOTHERM, &[31, 32]),
     (COLD_ISOTHERM, &[11]),
+    (SUN_ON_MOIST_SOIL, &[]),
+    (MOST_SUN, &[31, 32, 11]),
 ];
 
 /// Those of them that hold together, the earlier first.
-const ALIKE_PAIRS: [(Bring, Bring); 9] = [
+const ALIKE_PAIRS: [(Bring, Bring); 16] = [
     (LOSS_VOLTAGE, STRAY_ISOTHERM),
-    (LOSS_VOLTAGE, UNASSIGNED),
     (LOSS_VOLTAGE, COLD_ISOTHERM),
-    (SOIL_RATIO, UNASSIGNED),
+    (LOSS_VOLTAGE, SUN_ON_MOIST_SOIL),
+    (LOSS_VOLTAGE, MOST_SUN),
     (SOIL_RATIO, COLD_ISOTHERM),
-    (ISOTHERM_BEYOND, UNASSIGNED),
+    (SOIL_RATIO, SUN_ON_MOIST_SOIL),
+    (ISOTHERM_BEYOND, SUN_ON_MOIST_SOIL),
     (ISOTHERM_BEYOND_ALONE, STRAY_ISOTHERM),
-    (ISOTHERM_BEYOND_ALONE, UNASSIGNED),
-    (UNASSIGNED, COLD_ISOTHERM),
+    (ISOTHERM_BEYOND_ALONE, MOST_SUN),
+    (HEAT_BEYOND, STRAY_ISOTHERM),
+    (HEAT_BEYOND, COLD_ISOTHERM),
+    (HEAT_BEYOND, SUN_ON_MOIST_SOIL),
+    (HEAT_BEYOND, MOST_SUN),
+    (STRAY_ISOTHERM, MOST_SUN),
+    (COLD_ISOTHERM, SUN_ON_MOIST_SOIL),
+    (SUN_ON_MOIST_SOIL, MOST_SUN),
 ];
 
 /// A case, the cable that it was made of, and the two refusals that hold of it,
@@ -209,7 +228,9 @@ pub fn all() -> Vec<Pair> {
     pairs.extend(alike_pairs(&TREFOIL_SINGLE_POINT, &BRINGS));
     let by_core = BY_CORE_OR_ARMOUR.map(|(number, core, _)| (number, core));
     pairs.extend(pairs_with(&SL_TYPE, HOT_ISOTHERM, &by_core));
-    pairs.extend(alike_pairs(&SL_TYPE, &[&by_core[..], &[HOT_ISOTHERM]].concat()));
+    let brings = [&by_core[..], &[HOT_ISOTHERM, SUN_ON_DRY_SOIL]].concat();
+    pairs.extend(pairs_with(&SL_TYPE, SUN_ON_DRY_SOIL, &brings));
+    pairs.extend(alike_pairs(&SL_TYPE, &brings));
     pairs.extend(alike_pairs(&COMMON_SHEATH, &COMMON_BRINGS));
     pairs
 }

@@ -5,8 +5,8 @@ use twin::dice::Dice;
 use twin::drawn_cases::{disturb, sound_case};
 use twin::edge_cases::common_sheath::{with_sheath, NEAREST};
 use twin::edge_cases::pairs::ORDER;
-use twin::rating::{dry_soil, rate, Rated, Words};
-use twin::sample_cables::{with, ALL, DRY_SOIL, LOW_VOLTAGE};
+use twin::rating::{dry_soil, in_the_sun, rate, Rated, Words};
+use twin::sample_cables::{with, ALL, DRY_SOIL, IN_THE_SUN, LOW_VOLTAGE};
 use twin::standard::Cable;
 
 /// The float rating less the whole one, in mA. The whole one is cautious: it
@@ -23,13 +23,14 @@ fn shortfall(case: &Words, rated: &Rated) -> f64 {
 /// What the stages' rounding costs before I is rounded to whole mA, as a part
 /// of the rating: dd and E from the sheet, the root in floating point.
 fn relative_gap(case: &Words, rated: &Rated) -> f64 {
-    let left = 1e9 * Cable::from_fields(case).permitted_rise() - rated.sheet[11] as f64;
+    let without_current = rated.sheet[11] as f64 + f64::from(case[29]) * f64::from(case[25]);
+    let left = 1e9 * Cable::from_fields(case).permitted_rise() - without_current;
     let amperes = (1e7 * left / rated.sheet[12] as f64).sqrt();
     (1.0 - amperes / Cable::from_fields(case).rating()).abs()
 }
 
 /// Variations every arrangement can bear.
-const VARIATIONS: [&[(usize, u32)]; 14] = [
+const VARIATIONS: [&[(usize, u32)]; 18] = [
     &[],
     &[(2, 6000)],
     &[(2, 1667), (4, 0)],
@@ -44,6 +45,10 @@ const VARIATIONS: [&[(usize, u32)]; 14] = [
     &[(27, 2500), (28, 4500)],
     &[(27, 5000), (28, 7000)],
     &[(4, (-2000i32) as u32), (27, 3333), (28, (-100i32) as u32)],
+    &[(29, 1)],
+    &[(29, 20_000)],
+    &[(25, 100_000), (29, 200_000)],
+    &[(10, 0), (25, 220_000), (29, 200_000)],
 ];
 
 #[test]
@@ -79,7 +84,8 @@ fn rolled_cases_agree() {
     let mut widest = 0f64;
     let mut rated_cases = [0; 6];
     let mut dry_cases = [0; 6];
-    let mut refused = [0; 32];
+    let mut sunny_cases = [0; 6];
+    let mut refused = [0; 33];
     for _ in 0..40_000 {
         let case = sound_case(&mut dice);
         let rated = rate(&case);
@@ -90,13 +96,16 @@ fn rolled_cases_agree() {
             widest = widest.max(relative_gap(&case, &rated));
             rated_cases[case[0] as usize - 1] += 1;
             dry_cases[case[0] as usize - 1] += usize::from(dry_soil(&case));
+            sunny_cases[case[0] as usize - 1] += usize::from(in_the_sun(&case));
         }
     }
     println!("rolled cases: rated by arrangement {rated_cases:?}, in dry soil {dry_cases:?}");
+    println!("in the sun {sunny_cases:?}");
     println!("answers {refused:?}");
     println!("largest shortfall {largest} mA; before the last rounding {widest:e} of the rating");
     assert!(rated_cases.iter().all(|&count| count > 500));
     assert!(dry_cases.iter().all(|&count| count > 200));
+    assert!(sunny_cases.iter().all(|&count| count > 200));
     assert!(refused[1..8].iter().chain(&refused[31..]).all(|&count| count == 0));
 }
 
@@ -106,7 +115,7 @@ fn rolled_cases_agree() {
 fn sheets_agree() {
     let without_loss = ALL.map(|case| with(&case, &[(26, case[10] + 1)]));
     let at_u0 = ALL.map(|case| with(&case, &[(26, case[10])]));
-    let others = [LOW_VOLTAGE, DRY_SOIL];
+    let others = [LOW_VOLTAGE, DRY_SOIL, IN_THE_SUN];
     for case in [ALL, without_loss, at_u0].into_iter().flatten().chain(others) {
         let sheet = rate(&case).sheet.map(|number| number as f64);
         let cable = Cable::from_fields(&case);

@@ -9,7 +9,7 @@ use twin::dice::Dice;
 use twin::drawn_books::{drawn_book, KINDS};
 use twin::listing::{listing, LONGEST_BOOK};
 use twin::rating::{rate, Words};
-use twin::sample_cables::{with, ALL, DRY_SOIL, LOW_VOLTAGE, SL_TYPE, TREFOIL};
+use twin::sample_cables::{with, ALL, DRY_SOIL, IN_THE_SUN, LOW_VOLTAGE, SL_TYPE, TREFOIL};
 use twin::sound_books::{big_endian, sound_book, sound_book_of};
 
 pub const ZEROS: Words = [0; 30];
@@ -89,10 +89,11 @@ fn start_writes_sixteen_bytes_after_the_note() {
 }
 
 /// The cases of most tests: one of every arrangement, some that are refused, one whose
-/// loss does not count, and one in dry soil.
+/// loss does not count, one in dry soil, and one in the sun.
 fn cases() -> Vec<Words> {
-    let refused = [with(&TREFOIL, &[(14, 7)]), with(&DRY_SOIL, &[(28, 8501)]), ZEROS];
-    [ALL.as_slice(), &refused, &[[u32::MAX; 30], LOW_VOLTAGE, DRY_SOIL]].concat()
+    let soil_and_sun = [with(&DRY_SOIL, &[(28, 8501)]), with(&DRY_SOIL, &[(29, 1)])];
+    let refused = [with(&TREFOIL, &[(14, 7)]), ZEROS, [u32::MAX; 30]];
+    [ALL.as_slice(), &soil_and_sun, &refused, &[LOW_VOLTAGE, DRY_SOIL, IN_THE_SUN]].concat()
 }
 
 #[test]

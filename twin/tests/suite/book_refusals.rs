@@ -7,7 +7,7 @@ use twin::book::{
     LAYOUTS, RATING, RBK1, RBK2, RECORD_LENGTH, TRAILER_LENGTH,
 };
 use twin::rating::rate;
-use twin::sample_cables::{with, DRY_SOIL, SL_TYPE, TREFOIL};
+use twin::sample_cables::{with, DRY_SOIL, IN_THE_SUN, SL_TYPE, TREFOIL};
 use twin::sound_books::{big_endian, sound_book, sound_book_of, trailer};
 
 /// What an operation is tried on. Sound, it is a book of three records after a
@@ -268,23 +268,30 @@ fn changed_inputs_are_rated_again() {
 }
 
 #[test]
-fn changed_soils_are_rated_again() {
-    for (field, word) in [(27, 2501), (27, 0), (28, 5001), (28, 8501)] {
-        let mut book = sound_book_of(RBK2, &[], &[DRY_SOIL]);
-        assert!(accept(&book, book.len()).is_ok());
-        put_word(&mut book, 4 * field, word);
-        assert_eq!(accept(&book, book.len()), Err(Refusal::Disagrees(1)), "{field} {word}");
+fn changed_surroundings_are_rated_again() {
+    let dry = [(27, 2501), (27, 0), (28, 5001), (28, 8501), (29, 1)];
+    let sunny = [(29, 30_001), (29, 29_999), (29, 0), (29, 200_001), (27, 1000)];
+    for (case, changes) in [(DRY_SOIL, dry), (IN_THE_SUN, sunny)] {
+        for (field, word) in changes {
+            let mut book = sound_book_of(RBK2, &[], &[case]);
+            assert!(accept(&book, book.len()).is_ok());
+            put_word(&mut book, 4 * field, word);
+            assert_eq!(accept(&book, book.len()), Err(Refusal::Disagrees(1)), "{field} {word}");
+        }
     }
 }
 
-/// An older record has neither field, so that its soil is moist.
+/// An older record has none of these fields, so that its soil is moist and it is in
+/// the shade.
 #[test]
-fn older_records_are_of_moist_soil() {
-    let book = sound_book_of(RBK1, &[], &[DRY_SOIL]);
-    let record = read(&book, book.len(), 0).expect("a record");
-    assert_eq!(case_of(&record), SL_TYPE);
-    assert_eq!((record[ANSWER], record[RATING]), (0, rate(&SL_TYPE).rating));
-    assert!(accept(&book, book.len()).is_ok());
+fn older_records_are_of_moist_soil_in_the_shade() {
+    for case in [DRY_SOIL, IN_THE_SUN] {
+        let book = sound_book_of(RBK1, &[], &[case]);
+        let record = read(&book, book.len(), 0).expect("a record");
+        assert_eq!(case_of(&record), SL_TYPE);
+        assert_eq!((record[ANSWER], record[RATING]), (0, rate(&SL_TYPE).rating));
+        assert!(accept(&book, book.len()).is_ok());
+    }
 }
 
 /// Records of one mark under the trailer of the other: with no record the rest is

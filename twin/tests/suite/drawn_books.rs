@@ -90,21 +90,24 @@ fn either_mark_gets_every_refusal() {
 
 #[test]
 fn records_of_every_answer_appear() {
-    let mut answers = [0; 32];
-    let mut rated_in_dry_soil = 0;
+    let mut answers = [0; 33];
+    let (mut rated_in_dry_soil, mut rated_in_the_sun) = (0, 0);
     for book in drawn_books(2) {
         let Ok(parts) = accept(&book, book.len()) else { continue };
         for index in 0..parts.count {
             let record = read(&book, book.len(), index).expect("below the count");
             answers[record[ANSWER] as usize] += 1;
             rated_in_dry_soil += usize::from(record[ANSWER] == 0 && record[27] != 0);
+            rated_in_the_sun += usize::from(record[ANSWER] == 0 && record[29] != 0);
         }
     }
-    println!("answers 0 to 31 {answers:?}; {rated_in_dry_soil} rated in dry soil");
+    println!("answers 0 to 32 {answers:?}");
+    println!("{rated_in_dry_soil} rated in dry soil, {rated_in_the_sun} in the sun");
     assert!(answers[0] > 0 && ORDER.iter().all(|&number| answers[number as usize] > 0));
     // Half of the books are older and have none, and a good half of the others' cases
-    // are in moist soil.
+    // are in moist soil, of which half are in the sun.
     assert!(rated_in_dry_soil > answers[0] / 8);
+    assert!(rated_in_the_sun > answers[0] / 16);
 }
 
 #[test]

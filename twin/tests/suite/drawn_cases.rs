@@ -6,7 +6,9 @@ use twin::cable::Cable;
 use twin::dice::Dice;
 use twin::drawn_cases::drawn_case;
 use twin::edge_cases::pairs::ORDER;
-use twin::rating::{dry_soil, loss_counts, rate, value, Words, CURRENT_LIMIT, SKIN_LIMIT};
+use twin::rating::{
+    dry_soil, in_the_sun, loss_counts, rate, value, Words, CURRENT_LIMIT, SKIN_LIMIT,
+};
 use twin::stages::LARGEST_RS_OF_SUM;
 
 const DRAWN: usize = 100_000;
@@ -26,11 +28,11 @@ fn nearest(numbers: impl Iterator<Item = u128>, limit: u128) -> u128 {
 
 #[test]
 fn every_answer_occurs() {
-    let mut answers = [0; 32];
+    let mut answers = [0; 33];
     for (_, answer) in drawn() {
         answers[answer as usize] += 1;
     }
-    println!("answers 0 to 31 of {DRAWN} drawn cases: {answers:?}");
+    println!("answers 0 to 32 of {DRAWN} drawn cases: {answers:?}");
     let few = |answer: &u32| answers[*answer as usize] <= DRAWN / 1000;
     assert!(![0].iter().chain(&ORDER).any(few), "{answers:?}");
 }
@@ -68,7 +70,9 @@ fn loss_voltages_about_u0_and_their_limits_occur() {
         println!("the loss voltage is {name} in {rated} rated cases, {refused} refused by 10");
         assert!(rated > DRAWN / 200, "{name}: {rated}");
     }
-    assert_eq!(count(&drawn, |case, answer| answer == 10 && !loss_counts(case)), 0);
+    // Without a loss only the sun can bring about 10.
+    let lossless_in_shade = |case: &Words| !loss_counts(case) && !in_the_sun(case);
+    assert_eq!(count(&drawn, |case, answer| answer == 10 && lossless_in_shade(case)), 0);
     let beyond = |voltage| count(&drawn, |case, answer| case[26] == voltage && answer == 3);
     assert!(beyond(300_001).min(beyond(u32::MAX)) > 20);
 }
@@ -116,12 +120,90 @@ fn dry_soils_beyond_their_limits_occur() {
         println!("{name} in {given} cases of answer {answer}");
         assert!(given > 20, "{name}, {answer}: {given}");
     }
-    let unassigned = count(&drawn, |case, answer| case[29] != 0 && answer == 4);
-    assert!(unassigned > 50, "{unassigned}");
     // Every refusal of a case is given in dry soil too.
     for refusal in ORDER {
         let given = count(&drawn, |case, given| given == refusal && dry_soil(case));
         assert!(given > 50, "{refusal}: {given}");
+    }
+}
+
+/// d0 and the permitted rise.
+fn without_current(case: &Words) -> (u128, u128) {
+    let cable = Cable::of(case);
+    (cable.rise_without_current(), cable.permitted_rise())
+}
+
+/// The sun's heat and T4 at their limits, rated and refused by 10; and 11 in the sun.
+#[test]
+fn suns_about_their_limits_occur() {
+    let drawn = drawn();
+    let places: [Place; 6] = [
+        ("heat 1", |case| case[29] == 1),
+        ("heat between", |case| (2..200_000).contains(&case[29])),
+        ("heat 200000", |case| case[29] == 200_000),
+        ("T4 10000", |case| in_the_sun(case) && case[25] == 10_000),
+        ("T4 20000000", |case| in_the_sun(case) && case[25] == 20_000_000),
+        ("a loss", |case| in_the_sun(case) && Cable::of(case).dielectric().1 > 0),
+    ];
+    for (name, place) in places {
+        for (answer, least) in [(0, DRAWN / 200), (10, DRAWN / 1000)] {
+            let given = count(&drawn, |case, given| given == answer && place(case));
+            println!("{name} in {given} cases of answer {answer}");
+            assert!(given > least, "{name}, {answer}: {given}");
+        }
+    }
+    let sunny = count(&drawn, |case, answer| answer == 0 && in_the_sun(case));
+    let rated = count(&drawn, |_, answer| answer == 0);
+    println!("{sunny} of {rated} rated cases are in the sun");
+    assert!(sunny > rated / 8 && sunny < rated / 2);
+    let too_large = count(&drawn, |case, answer| answer == 11 && in_the_sun(case));
+    assert!(too_large > DRAWN / 1000, "{too_large}");
+}
+
+/// On both sides of nine tenths of the permitted rise, with a dielectric loss and
+/// without, and at it.
+#[test]
+fn suns_next_to_refusal_10_occur() {
+    let drawn = drawn();
+    let sunny = drawn.iter().filter(|(case, answer)| in_the_sun(case) && [0, 10].contains(answer));
+    let mut sides = [[0; 2]; 2];
+    let mut at = 0;
+    for (case, answer) in sunny {
+        let (d0, permitted) = without_current(case);
+        // Within a hundredth of the permitted rise.
+        if (10 * d0).abs_diff(9 * permitted) * 10 < permitted {
+            let loss = Cable::of(case).dielectric().1 > 0;
+            sides[usize::from(*answer == 10)][usize::from(loss)] += 1;
+        }
+        at += usize::from(10 * d0 == 9 * permitted);
+    }
+    println!(
+        "rated and refused next to refusal 10, without a loss and with: {sides:?}; {at} at it"
+    );
+    assert!(sides.as_flattened().iter().all(|&count| count > DRAWN / 2000), "{sides:?}");
+    assert!(at > 20, "{at}");
+}
+
+/// Refusals of the sun, and of dry soil and the sun together.
+#[test]
+fn suns_beyond_their_limits_occur() {
+    let drawn = drawn();
+    let beyond: [(u32, Place); 5] = [
+        (3, ("heat 200001", |case| case[29] == 200_001)),
+        (3, ("heat 4294967295", |case| case[29] == u32::MAX)),
+        (32, ("the least v", |case| case[27] == 1000)),
+        (32, ("the least heat", |case| case[29] == 1)),
+        (31, ("the sun", |case| dry_soil(case) && in_the_sun(case))),
+    ];
+    for (answer, (name, place)) in beyond {
+        let given = count(&drawn, |case, given| given == answer && place(case));
+        println!("{name} in {given} cases of answer {answer}");
+        assert!(given > 20, "{name}, {answer}: {given}");
+    }
+    // Every refusal of a case is given in the sun too.
+    for refusal in ORDER {
+        let given = count(&drawn, |case, given| given == refusal && in_the_sun(case));
+        assert!(given > 20, "{refusal}: {given}");
     }
 }
 
@@ -159,7 +241,7 @@ fn count(cases: &[(Words, u32)], test: impl Fn(&Words, u32) -> bool) -> usize {
 #[test]
 fn common_sheaths_get_every_answer_they_can() {
     let cases = drawn_common_sheaths();
-    for answer in [0, 2, 3, 4, 5, 6, 31, 8, 10, 11] {
+    for answer in [0, 2, 3, 4, 5, 6, 31, 32, 8, 10, 11] {
         let given = count(&cases, |_, given| given == answer);
         println!("answer {answer}: {given} of {} common sheaths", cases.len());
         assert!(given > cases.len() / 500, "{answer}: {given}");

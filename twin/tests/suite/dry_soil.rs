@@ -170,7 +170,7 @@ fn isotherm_edges() {
     assert!(at(-1000).rating < at(-1).rating && at(-1).rating < at(0).rating);
 }
 
-/// 31 stands after 6 and before 7, for all that its number is the greatest.
+/// 31 stands after 6 and before 7, for all that its number is greater.
 #[test]
 fn refusal_31_stands_between_6_and_7() {
     let isotherm = with(&DRY_SOIL, &[(28, 8501)]);

@@ -1,12 +1,13 @@
 // Document 01's 'Values at the edges', as far as they concern the rating, and
-// those of document 02's common sheath and dry soil, each asked of the function
+// those of document 02's common sheath, dry soil and sun, each asked of the function
 // that gives it; those that can be reached by a whole case are asked of a case
 // too.
 
 use twin::edge_cases::common_sheath::ROUNDINGS;
 use twin::rating::{dielectric_refused, eddy_refused, rate, skin_refused, Rated, Words};
 use twin::sample_cables::{
-    with, COMMON_ALUMINIUM_SHEATH, COMMON_SHEATH, DRY_SOIL, SL_TYPE, TREFOIL_SINGLE_POINT,
+    with, COMMON_ALUMINIUM_SHEATH, COMMON_SHEATH, DRY_SOIL, IN_THE_SUN, SL_TYPE,
+    TREFOIL_SINGLE_POINT,
 };
 use twin::stages::{self, MOIST, T};
 use twin::tables;
@@ -174,6 +175,8 @@ fn whole_sheet_of_the_sl_cable() {
     let mut dry = expected;
     dry[11..].copy_from_slice(&[1_177_027_308, 6_744_896_324_490]);
     whole_sheet(&DRY_SOIL, 424_115, dry);
+    // In the sun none is.
+    whole_sheet(&IN_THE_SUN, 410_275, expected);
 }
 
 #[test]

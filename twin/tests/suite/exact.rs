@@ -5,15 +5,17 @@
 use std::fs;
 use twin::dice::Dice;
 use twin::drawn_cases::rated_case;
+use twin::edge_cases::sun::{alone, together, SHADED_BRIDGE};
 use twin::ends::Ends;
 use twin::exact_rise::{permitted_rise, Heating};
 use twin::figure::figure;
 use twin::fraction::Fraction;
 use twin::margins::{distance_under_line, margins, margins_at, Margins};
 use twin::published::published;
-use twin::rating::{dry_soil, rate, Rated, Words};
+use twin::rating::{dry_soil, in_the_sun, rate, Rated, Words};
 use twin::sample_cables::{
-    with, ALL, COMMON_SHEATH, DRY_SOIL, FLAT, LOW_VOLTAGE, SL_TYPE, TREFOIL, TREFOIL_SINGLE_POINT,
+    with, ALL, COMMON_SHEATH, DRY_SOIL, FLAT, IN_THE_SUN, LOW_VOLTAGE, ON_A_BRIDGE, SL_TYPE,
+    TREFOIL, TREFOIL_SINGLE_POINT,
 };
 use twin::standard::Cable;
 
@@ -28,16 +30,19 @@ fn drawn_cases(seed: u64, count: usize) -> impl Iterator<Item = (Words, Rated)> 
 fn both_bounds_hold_at_every_combination_of_ends() {
     let mut all = Margins::none();
     let mut arrangements = [0; 6];
-    let mut dry = 0;
+    let (mut dry, mut sunny) = (0, 0);
     for (case, rated) in drawn_cases(0x1e0c, 600) {
         let margins = margins(&case, &rated);
         all = all.join(&margins.unwrap_or_else(|| panic!("{case:?} {rated:?}")));
         arrangements[case[0] as usize - 1] += 1;
         dry += usize::from(dry_soil(&case));
+        sunny += usize::from(in_the_sun(&case));
     }
-    println!("600 drawn cases {arrangements:?}, {dry} of them in dry soil: {all:?}");
+    println!("600 drawn cases {arrangements:?}: {all:?}");
+    println!("{dry} of them in dry soil, {sunny} in the sun");
     assert!(arrangements.iter().all(|&count| count > 50), "{arrangements:?}");
     assert!(dry > 200 && dry < 400, "{dry}");
+    assert!(sunny > 100 && dry + sunny < 500, "{sunny}");
     assert!(all.under >= 0.0 && all.above > 0.0);
     // What the estimates by hand allow, stage by stage.
     assert!(all.e_error < 5e-8, "{all:?}");
@@ -98,8 +103,8 @@ fn the_limit_is_the_standards() {
         let limit_squared = Heating::of(&case, &chosen).limit_squared(&permitted_rise(&case));
         let limit = limit_squared.expect("a rated case").to_f64().sqrt() / 1000.0;
         let gap = (limit / Cable::from_fields(&case).rating() - 1.0).abs();
-        // The ends of the logarithm of 1.05 differ by 10^-9 of it, and where
-        // dd takes nine tenths of the rise that counts nine times.
+        // The ends of the logarithm of 1.05 differ by 10^-9 of it, and where dd
+        // and the sun take nine tenths of the rise that counts up to nine times.
         assert!(gap < 5e-9, "{case:?}: {limit}");
         widest = widest.max(gap);
     }
@@ -165,6 +170,26 @@ fn the_exact_rise_counts_dry_soil_as_the_rating_does() {
     assert!(margins(&DRY_SOIL, &rate(&SL_TYPE)).is_none());
     assert!(margins(&SL_TYPE, &rate(&DRY_SOIL)).is_none());
     assert!(margins(&at_ambient, &rate(&DRY_SOIL)).is_none());
+}
+
+/// The exact rise has the sun's heat times T4 in it, and no more.
+#[test]
+fn the_exact_rise_counts_the_sun_as_the_rating_does() {
+    // 30 W/m by 0.45 K m/W, and 33.48 W/m by 0.307819 K m/W.
+    let rises = [(SL_TYPE, 0), (IN_THE_SUN, 13_500_000_000), (ON_A_BRIDGE, 10_305_780_120)];
+    for (case, rise) in rises {
+        let exact = Heating::of(&case, &Ends::of(&case).between([0; 4], 1));
+        assert_eq!(exact.d0, exact.dd.plus(&Fraction::whole(rise)));
+        assert_eq!(exact.rise(0), exact.d0);
+        assert_eq!(permitted_rise(&case), permitted_rise(&with(&case, &[(29, 0)])));
+    }
+    let shade = with(&ON_A_BRIDGE, &SHADED_BRIDGE);
+    for case in [IN_THE_SUN, shade, ON_A_BRIDGE].into_iter().chain(alone(0)).chain(together(0)) {
+        assert!(margins(&case, &rate(&case)).is_some(), "{case:?}");
+    }
+    // Neither rating is one of the other: each breaks a bound there.
+    assert!(margins(&IN_THE_SUN, &rate(&SL_TYPE)).is_none());
+    assert!(margins(&SL_TYPE, &rate(&IN_THE_SUN)).is_none());
 }
 
 /// Where the loss does not count the exact rise has none of it either.

@@ -16,3 +16,4 @@ mod exact;
 mod lines;
 mod published;
 mod refusals;
+mod sun;

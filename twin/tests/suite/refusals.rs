@@ -1,11 +1,11 @@
-// The refusals 1 to 11 and 31: each by itself, and at the edges of its condition with
+// The refusals 1 to 11, 31 and 32: each by itself, and at the edges of its condition with
 // the numbers as documents 01 and 02 have them.
 
 use twin::edge_cases::pairs::{BRINGS, COMMON_BRINGS};
 use twin::rating::{current_refused, rate, Rated, Words};
 use twin::sample_cables::{
-    with, ALL, COMMON_ALUMINIUM_SHEATH, COMMON_SHEATH, DRY_SOIL, FLAT, FLAT_SINGLE_POINT,
-    LOW_VOLTAGE, SL_TYPE, TREFOIL, TREFOIL_SINGLE_POINT,
+    with, ALL, COMMON_ALUMINIUM_SHEATH, COMMON_SHEATH, FLAT, FLAT_SINGLE_POINT, LOW_VOLTAGE,
+    SL_TYPE, TREFOIL, TREFOIL_SINGLE_POINT,
 };
 use twin::standard::Cable;
 
@@ -72,9 +72,9 @@ fn arrangement_and_conductor_ends() {
     refused_with(&[u32::MAX; 30], 1);
 }
 
-/// Just outside each limit of fields 2 to 28 in the SL cable, as document 01's
+/// Just outside each limit of fields 2 to 29 in the SL cable, as document 01's
 /// table of fields and document 02 have them.
-const JUST_OUTSIDE: [(usize, u32, u32); 27] = [
+const JUST_OUTSIDE: [(usize, u32, u32); 28] = [
     (2, 999, 6501),
     (3, 3999, 25001),
     (4, TOO_COLD, 6001),
@@ -102,6 +102,7 @@ const JUST_OUTSIDE: [(usize, u32, u32); 27] = [
     (26, u32::MAX, 300_001),
     (27, 999, 5001),
     (28, TOO_COLD, 25001),
+    (29, u32::MAX, 200_001),
 ];
 
 fn limits_hold(cable: &Words, (field, below, above): (usize, u32, u32)) {
@@ -150,13 +151,7 @@ fn c_is_stray_only_in_single_core_cables() {
 }
 
 #[test]
-fn fields_without_a_meaning_must_be_zero() {
-    for base in ALL.into_iter().chain([LOW_VOLTAGE, DRY_SOIL]) {
-        for word in [1, 6, 5000, 300_000, COLD, u32::MAX] {
-            refused_with(&with(&base, &[(29, word)]), 4);
-        }
-    }
-    // The isotherm has a meaning only with a v.
+fn the_isotherm_has_a_meaning_only_with_a_v() {
     for base in ALL.into_iter().chain([LOW_VOLTAGE]) {
         for word in [1, 5000, 25000, COLD, u32::MAX] {
             refused_with(&with(&base, &[(28, word)]), 4);

@@ -1,6 +1,6 @@
--- Cables whose rating rests on an input that RBK2 stores and RBK1 does not, each in a book of either mark: a low-voltage cable and a cable
--- in soil that dries out. The record of RBK2 has the rating with that input, and demand 3 holds of it. RBK1 stores the other inputs, so
--- that the rating with zeros behind them agrees there. With the other mark's rating a record disagrees. Assumes nothing.
+-- Cables whose rating rests on an input that RBK2 stores and RBK1 does not, each in a book of either mark: a low-voltage cable, a cable in
+-- soil that dries out and a cable in the sun. The record of RBK2 has the rating with that input, and demand 3 holds of it. RBK1 stores the
+-- other inputs, so that the rating with zeros behind them agrees there. With the other mark's rating a record disagrees. Assumes nothing.
 use Rattle.std.specs.Prelude.{List, [], ◌∷◌, ◌++◌, ◌≡◌, refl, ℕ, ◌+◌}
 use Rattle.std.proofs.Common.{ap, ap₂}
 use Rattle.bools.specs.Earliest.{earliest}
@@ -10,9 +10,9 @@ use Rattle.rating.specs.Chosen.{Chosen}
 use Rattle.rating.specs.Allowed.{Allowed}
 use Rattle.rating.specs.Arrangements.{own}
 use Rattle.rating.specs.Exact.{exact_rise}
-use Rattle.rating.proofs.Laws.Answers.{low_voltage, low_voltage_counted, dry_soil, three_cores}
+use Rattle.rating.proofs.Laws.Answers.{low_voltage, low_voltage_counted, dry_soil, three_cores, sunlit, sunlit_older}
 use Rattle.rating.proofs.Laws.Instances.{answer_low_voltage, answer_counted, chosen_low_voltage, allowed_low_voltage}
-use Rattle.rating.proofs.Laws.Instances.{answer_6, answer_dry, chosen_6, allowed_dry}
+use Rattle.rating.proofs.Laws.Instances.{answer_6, answer_dry, answer_sun, answer_sun_older, chosen_6, allowed_dry, allowed_sun}
 use Rattle.book_laws.specs.Bytes.{number_bytes, number_at, words_bytes, words_at, stands}
 use Rattle.book_laws.specs.Layout.{rbk1, rbk2}
 use Rattle.book_laws.specs.Format.{all_fields, trailer_bytes}
@@ -45,6 +45,7 @@ pub record FurtherBook (x older : List ℕ) (i j : ℕ) : Type 0 where
 pub record FurtherBooks : Type 0 where
   pub low_voltage_book : FurtherBook low_voltage low_voltage_counted 280655 280511
   pub dry_soil_book : FurtherBook dry_soil three_cores 360793 469955
+  pub sun_book : FurtherBook sunlit sunlit_older 579762 637128
 
 pub further_books : FurtherBooks
 unfolding read_in read_after accept_in accept_after unaccepted on_book_in describe_in describe_at wrong_trailer agrees all_agree
@@ -68,6 +69,15 @@ further_books =
             older_reads = refl;
             older_accepts = ap₂ (accepted_as 469955) answer_6.0 answer_6.1;
             older_disagrees = ap₂ (accepted_as 360793) answer_6.0 answer_6.1;
+          };
+      sun_book =
+          record {
+            reads = refl;
+            accepts = ap₂ (accepted_as 579762) answer_sun.0 answer_sun.1;
+            disagrees = ap₂ (accepted_as 637128) answer_sun.0 answer_sun.1;
+            older_reads = refl;
+            older_accepts = ap₂ (accepted_as 637128) answer_sun_older.0 answer_sun_older.1;
+            older_disagrees = ap₂ (accepted_as 579762) answer_sun_older.0 answer_sun_older.1;
           };
     }
 
@@ -93,3 +103,9 @@ under_dry = under further_books.dry_soil_book chosen_6 allowed_dry
 
 over_dry : whole (permitted_of dry_soil) <F exact_rise dry_soil chosen_6 (whole 360795)
 over_dry = over further_books.dry_soil_book chosen_6 allowed_dry
+
+under_sun : exact_rise sunlit chosen_6 (whole 579762) ≤F whole (permitted_of sunlit)
+under_sun = under further_books.sun_book chosen_6 allowed_sun
+
+over_sun : whole (permitted_of sunlit) <F exact_rise sunlit chosen_6 (whole 579764)
+over_sun = over further_books.sun_book chosen_6 allowed_sun

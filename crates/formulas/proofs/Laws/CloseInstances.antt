@@ -253,7 +253,7 @@ rated : Stage10 e* dd* e dd (70000000000 - dd) 70000000000 457106
 rated =
     record {
       e_close = e_close;
-      dd_close = within_weaken (lit≤ tt) (whole_mono (lit≤ tt)) dd_close;
+      d0_close = within_weaken (lit≤ tt) (whole_mono (lit≤ tt)) dd_close;
       left = omega (arith, dd_share);
       shares = dd_share;
       warm = lit≤ tt;

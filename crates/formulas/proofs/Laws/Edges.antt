@@ -1,7 +1,7 @@
 -- The starred values at the edges of docs/CLAIMS.md, as one theorem; as another the edges of refusals 8 and 11 that the stars leave out:
--- where kp decides, and the largest rating; as a third those of arrangement 6; and as a fourth those of dry soil. Each is computed from
+-- where kp decides, and the largest rating; and as further ones those of arrangement 6, of dry soil and of the sun. Each is computed from
 -- the definition or the table that the rating uses. Assumes nothing.
-use Rattle.std.specs.Prelude.{◌≡◌, refl, Bool, true, false, ℕ, ◌*◌, pos, neg_ℤ}
+use Rattle.std.specs.Prelude.{◌≡◌, refl, Bool, true, false, ℕ, ◌+◌, ◌*◌, pos, neg_ℤ}
 use Rattle.exact.specs.Rounding.{up, down}
 use Rattle.exact.specs.Root.{root}
 use Rattle.formulas.specs.Tables.{ks, kp, coefficient, conductor_metal}
@@ -23,6 +23,7 @@ use Rattle.formulas.specs.CommonSheath.{
   common_loss,
 }
 use Rattle.formulas.specs.Soil.{soil_ratio, soil_resistance, permitted_rise}
+use Rattle.formulas.specs.Sun.{solar_rise}
 use Rattle.formulas.specs.Dielectric.{dielectric_resistance, dielectric_rise, current_rise}
 use Rattle.formulas.specs.Rating.{unit_rise, rating}
 use Rattle.formulas.specs.Refusals.{skin_refused, eddy_refused, dielectric_refused, current_refused}
@@ -196,4 +197,25 @@ dry_soil_starred =
       passes_10_dry = refl;
       gets_10_dry = refl;
       gets_10_moist = refl;
+    }
+
+-- The sun: its rise at the ends of field 29 and of T4; N with it; and refusal 10 at equality and one beyond, by the sun alone.
+pub record SunStarred : Type 0 where
+  pub none : solar_rise 0 20000000 ≡ 0
+  pub least : solar_rise 1 10000 ≡ 10000
+  pub most : solar_rise 200000 20000000 ≡ 4000000000000
+  pub N : current_rise (permitted_rise 0 7000 0) (557941517 + solar_rise 30000 450000) ≡ 55942058483
+  pub passes_10 : dielectric_refused (solar_rise 45000 1000000) (permitted_rise 0 5000 0) ≡ false
+  pub gets_10 : dielectric_refused (solar_rise 45000 1000000 + 1) (permitted_rise 0 5000 0) ≡ true
+
+pub sun_starred : SunStarred
+unfolding solar_rise soil_ratio permitted_rise current_rise dielectric_refused
+sun_starred =
+    record {
+      none = refl;
+      least = refl;
+      most = refl;
+      N = refl;
+      passes_10 = refl;
+      gets_10 = refl;
     }

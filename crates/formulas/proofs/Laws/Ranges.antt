@@ -38,6 +38,7 @@ use Rattle.formulas.specs.CommonSheath.{
 }
 use Rattle.formulas.specs.Armour.{reduced_armour_resistance, unscreened_loss, screening_ratio_squared, screened_loss}
 use Rattle.formulas.specs.Dielectric.{dielectric_resistance, dielectric_rise}
+use Rattle.formulas.specs.Sun.{solar_rise}
 use Rattle.formulas.specs.Rating.{unit_rise}
 use Rattle.formulas.proofs.Laws.Temperature.{FactorRange, temperature_factor_range}
 use Rattle.formulas.proofs.Laws.LogRange.{log_high_most, log_low_most}
@@ -69,6 +70,7 @@ use Rattle.formulas.specs.Laws.Bounds.{
   most_dielectric_loss,
   most_dielectric_resistance,
   most_dielectric_rise,
+  most_solar_rise,
   most_t4,
   least_unit_rise,
   most_unit_rise,
@@ -326,6 +328,12 @@ pub dielectric_rise_most :
 unfolding dielectric_rise
 dielectric_rise_most n≤ wd≤ t1≤ t2≤ t3≤ t4≤ =
     up_least _ _ (lit< tt) (mul-le-mul wd≤ (dielectric_resistance_most n≤ t1≤ t2≤ t3≤ t4≤))
+
+-- The rise by the sun.
+
+pub solar_rise_most : {heat t4 : ℕ} → heat ≤ 200000 → t4 ≤ 20000000 → solar_rise heat t4 ≤ most_solar_rise
+unfolding solar_rise
+solar_rise_most heat≤ t4≤ = mul-le-mul heat≤ t4≤
 
 -- The rise at unit current.
 

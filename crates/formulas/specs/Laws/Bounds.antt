@@ -228,6 +228,10 @@ most_dielectric_rise = 12227500000000000
 abbrev pub most_permitted_rise : ℕ
 most_permitted_rise = 1450000000000
 
+-- the rise by the sun at 200000 mW/m, with the largest T4
+abbrev pub most_solar_rise : ℕ
+most_solar_rise = 4000000000000
+
 -- Stage 10: E from the least R and T1 alone, and from the largest of everything.
 
 -- a part of E, the rise across one thermal resistance: R, S and W of three cores at T3 with T4

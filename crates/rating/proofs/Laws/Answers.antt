@@ -1,7 +1,7 @@
 -- The whole answer, number, rating and sheet, to one case of each arrangement, to one that is refused, to a low-voltage cable whose
--- dielectric loss does not count and then does, and to a cable in soil that dries out, rated and refused, computed from the definitions
--- alone. The cases but the last stand in the files of examples/. A definition that gives them another number in any place is refused
--- here. Assumes nothing.
+-- dielectric loss does not count and then does, to a cable in soil that dries out, rated and refused, and to a cable on a bridge, in the
+-- shade, in the sun and refused, computed from the definitions alone. The cases but `sunlit_older` and those that 31 and
+-- 32 refuse stand in the files of examples/. A definition that gives them another number in any place is refused here. Assumes nothing.
 use Rattle.std.specs.Prelude.{◌≡◌, List, [], ◌∷◌, ℕ, set}
 use Rattle.exact.specs.Rounding.{up, down}
 use Rattle.exact.specs.Root.{root}
@@ -44,6 +44,7 @@ use Rattle.formulas.specs.Armour.{
   armour_loss,
 }
 use Rattle.formulas.specs.Soil.{soil_ratio, soil_resistance, permitted_rise}
+use Rattle.formulas.specs.Sun.{solar_rise}
 use Rattle.formulas.specs.Dielectric.{dielectric_loss, dielectric_resistance, dielectric_rise, current_rise}
 use Rattle.formulas.specs.Rating.{unit_rise, rating}
 use Rattle.formulas.specs.Refusals.{skin_refused, eddy_refused, dielectric_refused, current_refused}
@@ -68,6 +69,7 @@ use Rattle.rating.specs.Values.{
   isotherm_rise_of,
   soil_T4,
   permitted_of,
+  solar_rise_of,
 }
 use Rattle.rating.specs.Arrangement.{axis_limits, no_armour, armourless, alternating}
 use Rattle.rating.specs.BothEnds.{both_ends}
@@ -84,15 +86,15 @@ use Rattle.rating.specs.FieldRefusals.{
   moist,
   further_limits,
   isotherm_unused,
-  unassigned,
   stray_refused,
   geometry_refused,
   heat_refused,
   isotherm_refused,
+  sun_refused,
   metal_refused,
   field_refusals,
 }
-use Rattle.rating.specs.Stage10.{N, E, current_of}
+use Rattle.rating.specs.Stage10.{d0, N, E, current_of}
 use Rattle.rating.specs.Rate.{refused, sheet_of, rated, loaded, judged, rate_of, rate_of_is}
 
 -- arrangement 1: three cables of 6/10 kV in trefoil
@@ -161,6 +163,27 @@ dry_soil = set (set three_cores 27 2500) 28 3500
 -- the same with an isotherm 0.01 K below the ambient temperature, which refusal 31 refuses
 abbrev pub cold_isotherm : List ℕ
 cold_isotherm = set dry_soil 28 1999
+
+-- the cable of arrangement 6 in free air of 30 °C, on a bridge, in the shade
+abbrev pub bridge : List ℕ
+bridge =
+    6 ∷ 2 ∷ 5000 ∷ 9000 ∷ 3000 ∷ 75400 ∷ 1850 ∷ 3210 ∷ 1970 ∷ 3070 ∷ 12000 ∷ 250 ∷ 400 ∷ 7377 ∷ 1 ∷ 355169 ∷ 7402 ∷ 0 ∷ 0 ∷ 0 ∷ 1853 ∷ 0
+    ∷ 406119 ∷ 0 ∷ 51159 ∷ 314776 ∷ 0 ∷ 0 ∷ 0 ∷ 0 ∷ []
+
+-- the same in the sun, of which it takes up 33.48 W/m, with the T4 and the sheath temperature that go with it; its rating is 8 per cent
+-- smaller
+abbrev pub sunlit : List ℕ
+sunlit =
+    6 ∷ 2 ∷ 5000 ∷ 9000 ∷ 3000 ∷ 75400 ∷ 1850 ∷ 3210 ∷ 1970 ∷ 3070 ∷ 12000 ∷ 250 ∷ 400 ∷ 7377 ∷ 1 ∷ 355169 ∷ 7658 ∷ 0 ∷ 0 ∷ 0 ∷ 1853 ∷ 0
+    ∷ 406119 ∷ 0 ∷ 51159 ∷ 307819 ∷ 0 ∷ 0 ∷ 0 ∷ 33480 ∷ []
+
+-- the same without its field 29, as an older book has it
+abbrev pub sunlit_older : List ℕ
+sunlit_older = set sunlit 29 0
+
+-- and with soil that dries out, which refusal 32 refuses
+abbrev pub sunlit_dry : List ℕ
+sunlit_dry = set (set sunlit 27 2500) 28 3500
 
 pub record Answered : Type 0 where
   pub both_ends_1 :
@@ -254,6 +277,34 @@ pub record Answered : Type 0 where
             961425400000 ∷ 4420859576800 ∷ 0 ∷ 628318530720 ∷ 8835005445 ∷ 12722773647 ∷ 982151596387 ∷ 0 ∷ 18029939377 ∷ 0 ∷ 56650693262
             ∷ 389701479 ∷ 7076046850490 ∷ [];
       }
+  pub bridge_6 :
+      rate_of bridge
+      ≡ record {
+        number = 0;
+        rating = 632628;
+        sheet =
+            961425400000 ∷ 4319139175200 ∷ 0 ∷ 628318530720 ∷ 8835005445 ∷ 12722773647 ∷ 982151596387 ∷ 0 ∷ 18454563961 ∷ 0 ∷ 56650693262
+            ∷ 73694876 ∷ 1497340870035 ∷ [];
+      }
+  -- dd is the dielectric's alone
+  pub sunlit_6 :
+      rate_of sunlit
+      ≡ record {
+        number = 0;
+        rating = 579762;
+        sheet =
+            961425400000 ∷ 4355508480800 ∷ 0 ∷ 628318530720 ∷ 8835005445 ∷ 12722773647 ∷ 982151596387 ∷ 0 ∷ 18300464921 ∷ 0 ∷ 56650693262
+            ∷ 72512520 ∷ 1476291264367 ∷ [];
+      }
+  pub sunlit_6_older :
+      rate_of sunlit_older
+      ≡ record {
+        number = 0;
+        rating = 637128;
+        sheet =
+            961425400000 ∷ 4355508480800 ∷ 0 ∷ 628318530720 ∷ 8835005445 ∷ 12722773647 ∷ 982151596387 ∷ 0 ∷ 18300464921 ∷ 0 ∷ 56650693262
+            ∷ 72512520 ∷ 1476291264367 ∷ [];
+      }
   pub refused_7 :
       rate_of aluminium
       ≡ record {
@@ -270,20 +321,28 @@ pub record Answered : Type 0 where
         sheet =
             0 ∷ 0 ∷ 0 ∷ 0 ∷ 0 ∷ 0 ∷ 0 ∷ 0 ∷ 0 ∷ 0 ∷ 0 ∷ 0 ∷ 0 ∷ [];
       }
+  pub refused_32 :
+      rate_of sunlit_dry
+      ≡ record {
+        number = 32;
+        rating = 0;
+        sheet =
+            0 ∷ 0 ∷ 0 ∷ 0 ∷ 0 ∷ 0 ∷ 0 ∷ 0 ∷ 0 ∷ 0 ∷ 0 ∷ 0 ∷ 0 ∷ [];
+      }
 
 pub answered : Answered
 unfolding rated sheet_of refused loaded judged or_refused field_refusals conductor_refused limit_refused conductor_limits sheath_limits
-    thermal_limits moist further_limits isotherm_unused unassigned stray_refused geometry_refused heat_refused isotherm_refused
+    thermal_limits moist further_limits isotherm_unused stray_refused geometry_refused heat_refused isotherm_refused sun_refused
     metal_refused arrangement_of sl_type soil_ratio soil_resistance isotherm_rise_of soil_T4 permitted_of armour_limits alternating
-    skin_refused eddy_refused dielectric_refused current_refused R' Rs RA B zs zp ys G yp R X XLow loss_counts Wd rise_of N E current_of
-    conductor_metal temperature_factor resistance reactance reactance_low skin_reactance skin_ratio skin_ratio_squared factor skin_factor
-    spacing_ratio proximity_h proximity_g proximity_factor ac_resistance log_low log_high thirteen_terms series first_power doubled
-    octaves doublings spacing_log_high spacing_log_low sheath_reactance sheath_reactance_low bond_ratio bond_ratio_squared
-    circulating_loss three_halves sl_loss armour_ratio armour_ratio_squared reduced_armour_resistance unscreened_loss
-    screening_ratio_squared screened_loss armour_loss dielectric_loss dielectric_resistance dielectric_rise permitted_rise current_rise
-    unit_rise rating root pi_low pi_high ln2_low ln2_high ln2_third_high tera up down axis_limits no_armour armourless both_ends one_point
-    eddy_ratio eddy_ratio_squared eddy_factor eddy_spacing eddy_loss common_sheath axis_ratio axis_ratio_squared common_ratio
-    common_ratio_squared is_first first_formula second_formula common_loss
+    skin_refused eddy_refused dielectric_refused current_refused R' Rs RA B zs zp ys G yp R X XLow loss_counts Wd rise_of solar_rise_of d0
+    N E current_of conductor_metal temperature_factor resistance reactance reactance_low skin_reactance skin_ratio skin_ratio_squared
+    factor skin_factor spacing_ratio proximity_h proximity_g proximity_factor ac_resistance log_low log_high thirteen_terms series
+    first_power doubled octaves doublings spacing_log_high spacing_log_low sheath_reactance sheath_reactance_low bond_ratio
+    bond_ratio_squared circulating_loss three_halves sl_loss armour_ratio armour_ratio_squared reduced_armour_resistance unscreened_loss
+    screening_ratio_squared screened_loss armour_loss dielectric_loss dielectric_resistance dielectric_rise solar_rise permitted_rise
+    current_rise unit_rise rating root pi_low pi_high ln2_low ln2_high ln2_third_high tera up down axis_limits no_armour armourless
+    both_ends one_point eddy_ratio eddy_ratio_squared eddy_factor eddy_spacing eddy_loss common_sheath axis_ratio axis_ratio_squared
+    common_ratio common_ratio_squared is_first first_formula second_formula common_loss
 answered =
     record {
       both_ends_1 = rate_of_is trefoil;
@@ -296,6 +355,10 @@ answered =
       low_voltage_6 = rate_of_is low_voltage;
       low_voltage_6_counted = rate_of_is low_voltage_counted;
       dry_soil_6 = rate_of_is dry_soil;
+      bridge_6 = rate_of_is bridge;
+      sunlit_6 = rate_of_is sunlit;
+      sunlit_6_older = rate_of_is sunlit_older;
       refused_7 = rate_of_is aluminium;
       refused_31 = rate_of_is cold_isotherm;
+      refused_32 = rate_of_is sunlit_dry;
     }

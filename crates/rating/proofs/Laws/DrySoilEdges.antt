@@ -1,7 +1,7 @@
--- Fields 27 and 28 at the edges of refusals 3, 4 and 31, each at equality and one beyond; of 31 and each other refusal the earlier; and
--- what stages 9 and 10 and refusal 10 take of dry soil, at its ends. A definition that moves one is refused here. Assumes nothing.
-use Rattle.std.specs.Prelude.{◌≡◌, refl, true, false, cond, List, [], ◌∷◌, map, ℕ, eqb, replicate, set}
-use Rattle.std.proofs.Common.{ap, ◌∙◌}
+-- Fields 27 and 28 at the edges of refusals 3, 4 and 31, each at equality and one beyond; of 31 and each other refusal but 32, and of 4 by
+-- field 28 and the other refusals of the fields, the earlier; and what stages 9 and 10 and refusal 10 take of dry soil, at its ends. A
+-- definition that moves one is refused here. Assumes nothing.
+use Rattle.std.specs.Prelude.{◌≡◌, refl, true, false, List, [], ◌∷◌, map, ℕ, replicate, set}
 use Rattle.exact.specs.Rounding.{up, down}
 use Rattle.exact.specs.Root.{root}
 use Rattle.formulas.specs.Constants.{tera, pi_high, ln2_low}
@@ -23,18 +23,36 @@ use Rattle.formulas.specs.CommonSheath.{
 }
 use Rattle.formulas.specs.Logarithm.{doublings, octaves, doubled, series, first_power, thirteen_terms, log_low}
 use Rattle.formulas.specs.Soil.{soil_ratio, soil_resistance, permitted_rise}
+use Rattle.formulas.specs.Sun.{solar_rise}
 use Rattle.formulas.specs.Dielectric.{dielectric_loss, dielectric_resistance, dielectric_rise, current_rise}
 use Rattle.formulas.specs.Rating.{unit_rise, rating}
 use Rattle.formulas.specs.Refusals.{skin_refused, eddy_refused, dielectric_refused, current_refused}
-use Rattle.rating.specs.Values.{R', Rs, B, zs, zp, ys, G, yp, R, loss_counts, Wd, rise_of, isotherm_rise_of, soil_T4, permitted_of}
+use Rattle.rating.specs.Values.{
+  R',
+  Rs,
+  B,
+  zs,
+  zp,
+  ys,
+  G,
+  yp,
+  R,
+  loss_counts,
+  Wd,
+  rise_of,
+  isotherm_rise_of,
+  soil_T4,
+  permitted_of,
+  solar_rise_of,
+}
 use Rattle.rating.specs.Arrangement.{axis_limits, no_armour, armourless, alternating}
 use Rattle.rating.specs.BothEnds.{both_ends}
 use Rattle.rating.specs.OnePoint.{one_point}
 use Rattle.rating.specs.SlType.{armour_limits, sl_type}
 use Rattle.rating.specs.CommonSheath.{common_sheath}
 use Rattle.rating.specs.Arrangements.{no_arrangement, arrangement_of}
-use Rattle.rating.specs.Stage10.{numbers_of, N, E, current_of}
-use Rattle.rating.specs.Rate.{refused, sheet_of, rated, loaded, judged, rate_of, rate_of_is}
+use Rattle.rating.specs.Stage10.{numbers_of, d0, N, E, current_of}
+use Rattle.rating.specs.Rate.{refused, sheet_of, rated, loaded, judged, rate_of}
 use Rattle.rating.specs.FieldRefusals.{
   conductor_refused,
   limit_refused,
@@ -44,17 +62,18 @@ use Rattle.rating.specs.FieldRefusals.{
   moist,
   further_limits,
   isotherm_unused,
-  unassigned,
   stray_refused,
   geometry_refused,
   heat_refused,
   isotherm_refused,
+  sun_refused,
   metal_refused,
   field_refusals,
   field_refusal,
 }
 use Rattle.rating.proofs.Laws.Answers.{trefoil_one_point, aluminium, three_cores, dry_soil, cold_isotherm}
-use Rattle.rating.proofs.Laws.Edges.{each, having, having_both}
+use Rattle.rating.proofs.Laws.Edges.{each, having, having_both, wrong_metal}
+use Rattle.rating.proofs.Laws.First.{number}
 
 -- the same cable in soil that dries out: its θa is 2000 and its θc 9000
 
@@ -65,9 +84,13 @@ dried ρ isotherm = having_both 27 ρ 28 isotherm
 abbrev frozen : (isotherm : ℕ) → ℕ
 frozen isotherm = field_refusal (set (dried 2500 isotherm) 4 4294966796)
 
--- with another field set anew
+-- with another field set anew, where soil dries out and where it does not
+
 abbrev misplaced : (field word isotherm : ℕ) → ℕ
 misplaced field word isotherm = field_refusal (set (dried 2500 isotherm) field word)
+
+abbrev misplaced_in_moist : (field word : ℕ) → ℕ
+misplaced_in_moist field word = field_refusal (set (dried 0 3500) field word)
 
 pub record DrySoilEdges : Type 0 where
   -- 3: ρ is 0 or has its limits
@@ -79,7 +102,7 @@ pub record DrySoilEdges : Type 0 where
   pub most_isotherm : map (λ ρ. limit_refused (dried ρ 25000)) (0 ∷ 2500 ∷ []) ≡ false ∷ false ∷ []
   pub above_isotherm : map (λ ρ. limit_refused (dried ρ 25001)) (0 ∷ 2500 ∷ []) ≡ true ∷ true ∷ []
   pub isotherm_by_3 : map (λ ρ. field_refusal (dried ρ 25001)) (0 ∷ 2500 ∷ []) ≡ 3 ∷ 3 ∷ []
-  -- 4: ρ is spared; θx is zero where ρ is 0, and there 4 is its first refusal within the limits; field 29 is always zero
+  -- 4: ρ is spared; θx is zero where ρ is 0, and there 4 is its first refusal within the limits
   pub ratio_passes_4 : map (λ ρ. stray_refused (dried ρ 0)) (0 ∷ 1 ∷ 2500 ∷ 4294967295 ∷ []) ≡ false ∷ false ∷ false ∷ false ∷ []
   pub moist_gets_4 :
       map (λ isotherm. field_refusal (dried 0 isotherm)) (1 ∷ 3500 ∷ 25000 ∷ 4294963296 ∷ 4294967295 ∷ [])
@@ -87,7 +110,13 @@ pub record DrySoilEdges : Type 0 where
   pub dry_passes_4 :
       map (λ isotherm. stray_refused (dried 2500 isotherm)) (1 ∷ 3500 ∷ 25000 ∷ 4294967295 ∷ [])
       ≡ false ∷ false ∷ false ∷ false ∷ []
-  pub field_29_gets_4 : map (λ ρ. field_refusal (set (dried ρ 3500) 29 1)) (1000 ∷ 2500 ∷ 5000 ∷ []) ≡ 4 ∷ 4 ∷ 4 ∷ []
+  -- and of this 4 and each other refusal of the fields that it can meet the earlier
+  pub arrangement_before_stray : misplaced_in_moist 0 7 ≡ 1
+  pub conductor_before_stray : misplaced_in_moist 1 9 ≡ 2
+  pub limit_before_stray : misplaced_in_moist 20 99 ≡ 3
+  pub stray_before_geometry : misplaced_in_moist 7 1849 ≡ 4
+  pub stray_before_heat : misplaced_in_moist 16 9001 ≡ 4
+  pub stray_before_metal : field_refusal (set wrong_metal 28 3500) ≡ 4
   -- 31: θx is at least θa, which is 2000, and at most θc, which is 9000, with any ρ but 0
   pub at_ambient : map (λ ρ. isotherm_refused (dried ρ 2000)) (1000 ∷ 2500 ∷ 5000 ∷ []) ≡ false ∷ false ∷ false ∷ []
   pub below_ambient : map (λ ρ. isotherm_refused (dried ρ 1999)) (1000 ∷ 2500 ∷ 5000 ∷ []) ≡ true ∷ true ∷ true ∷ []
@@ -106,18 +135,17 @@ pub record DrySoilEdges : Type 0 where
   pub conductor_before_isotherm : map (misplaced 1 9) (1999 ∷ 9001 ∷ []) ≡ 2 ∷ 2 ∷ []
   pub loss_voltage_before_isotherm : map (misplaced 26 300001) (1999 ∷ 9001 ∷ []) ≡ 3 ∷ 3 ∷ []
   pub ratio_before_isotherm : map (misplaced 27 999) (1999 ∷ 9001 ∷ []) ≡ 3 ∷ 3 ∷ []
-  pub unassigned_before_isotherm : map (misplaced 29 1) (1999 ∷ 9001 ∷ []) ≡ 4 ∷ 4 ∷ []
   pub stray_before_isotherm : map (misplaced 17 1) (1999 ∷ 9001 ∷ []) ≡ 4 ∷ 4 ∷ []
   pub geometry_before_isotherm : map (misplaced 7 1849) (1999 ∷ 9001 ∷ []) ≡ 5 ∷ 5 ∷ []
   pub heat_before_isotherm : map (misplaced 16 9001) (1999 ∷ 9001 ∷ []) ≡ 6 ∷ 6 ∷ []
   -- and 31 before 7
-  pub metal_alone : field_refusal (set (set (set trefoil_one_point 14 2) 27 2500) 28 3500) ≡ 7
-  pub isotherm_before_metal : field_refusal (set (set (set trefoil_one_point 14 2) 27 2500) 28 9001) ≡ 31
+  pub metal_alone : field_refusal (set (set wrong_metal 27 2500) 28 3500) ≡ 7
+  pub isotherm_before_metal : field_refusal (set (set wrong_metal 27 2500) 28 9001) ≡ 31
   pub isotherm_before_metals : field_refusal (set (set aluminium 27 2500) 28 1499) ≡ 31
 
 pub dry_soil_edges : DrySoilEdges
 unfolding or_refused field_refusals conductor_refused limit_refused conductor_limits sheath_limits thermal_limits moist further_limits
-    isotherm_unused unassigned stray_refused geometry_refused heat_refused isotherm_refused metal_refused arrangement_of no_arrangement
+    isotherm_unused stray_refused geometry_refused heat_refused isotherm_refused sun_refused metal_refused arrangement_of no_arrangement
     both_ends one_point sl_type armour_limits common_sheath axis_limits no_armour armourless
 dry_soil_edges =
     record {
@@ -131,7 +159,12 @@ dry_soil_edges =
       ratio_passes_4 = refl;
       moist_gets_4 = refl;
       dry_passes_4 = refl;
-      field_29_gets_4 = refl;
+      arrangement_before_stray = refl;
+      conductor_before_stray = refl;
+      limit_before_stray = refl;
+      stray_before_geometry = refl;
+      stray_before_heat = refl;
+      stray_before_metal = refl;
       at_ambient = refl;
       below_ambient = refl;
       at_conductor = refl;
@@ -146,7 +179,6 @@ dry_soil_edges =
       conductor_before_isotherm = refl;
       loss_voltage_before_isotherm = refl;
       ratio_before_isotherm = refl;
-      unassigned_before_isotherm = refl;
       stray_before_isotherm = refl;
       geometry_before_isotherm = refl;
       heat_before_isotherm = refl;
@@ -161,10 +193,10 @@ values x = soil_T4 x ∷ permitted_of x ∷ E x ∷ (numbers_of x).dd ∷ []
 
 -- a cable of arrangement 3 whose sheath has too little resistance for refusal 9, and one of 6 with too much current for 11
 
-abbrev few_eddies : List ℕ
+abbrev pub few_eddies : List ℕ
 few_eddies = set (set trefoil_one_point 15 1000) 27 2500
 
-abbrev cooled : List ℕ
+abbrev pub cooled : List ℕ
 cooled = set (set (set (set dry_soil 2 1000) 5 5000) 22 1000) 25 10000
 
 pub record DrySoilValues : Type 0 where
@@ -194,22 +226,16 @@ pub record DrySoilValues : Type 0 where
   pub current_alone : (rate_of (set cooled 28 3500)).number ≡ 11
   pub isotherm_before_current : (rate_of (set cooled 28 1999)).number ≡ 31
 
--- the number that `rate` answers, by what it is for the proofs of this crate
-number :
-    (x : List ℕ) {n : ℕ} → (cond (eqb (field_refusal x) 0) (judged x) (refused (field_refusal x))).number ≡ n →
-    (rate_of x).number ≡ n
-number x e = ap (λ a. a.number) (rate_of_is x) ∙ e
-
 pub dry_soil_values : DrySoilValues
 unfolding rated sheet_of refused loaded judged or_refused field_refusals conductor_refused limit_refused conductor_limits sheath_limits
-    thermal_limits moist further_limits isotherm_unused unassigned stray_refused geometry_refused heat_refused isotherm_refused
+    thermal_limits moist further_limits isotherm_unused stray_refused geometry_refused heat_refused isotherm_refused sun_refused
     metal_refused arrangement_of one_point common_sheath axis_limits no_armour armourless alternating skin_refused eddy_refused
-    dielectric_refused current_refused R' Rs B zs zp ys G yp R loss_counts Wd rise_of isotherm_rise_of soil_T4 permitted_of N E current_of
-    soil_ratio soil_resistance permitted_rise conductor_metal temperature_factor resistance reactance skin_reactance skin_ratio
-    skin_ratio_squared factor skin_factor spacing_ratio proximity_h proximity_g proximity_factor ac_resistance log_low thirteen_terms
-    series first_power doubled octaves doublings dielectric_loss dielectric_resistance dielectric_rise current_rise unit_rise rating root
-    pi_high ln2_low tera up down common_loss axis_ratio axis_ratio_squared common_ratio common_ratio_squared is_first first_formula
-    second_formula
+    dielectric_refused current_refused R' Rs B zs zp ys G yp R loss_counts Wd rise_of isotherm_rise_of soil_T4 permitted_of solar_rise_of
+    d0 N E current_of soil_ratio soil_resistance permitted_rise conductor_metal temperature_factor resistance reactance skin_reactance
+    skin_ratio skin_ratio_squared factor skin_factor spacing_ratio proximity_h proximity_g proximity_factor ac_resistance log_low
+    thirteen_terms series first_power doubled octaves doublings dielectric_loss dielectric_resistance dielectric_rise solar_rise
+    current_rise unit_rise rating root pi_high ln2_low tera up down common_loss axis_ratio axis_ratio_squared common_ratio
+    common_ratio_squared is_first first_formula second_formula
 dry_soil_values =
     record {
       none = refl;

@@ -1,6 +1,6 @@
--- The tests of the fields at the edges of an arrangement's own limits and relations, of the voltage from which the dielectric loss counts
--- and of the unassigned field, each at equality and one beyond, and the first of two refusals where both are given. A definition that
--- moves an edge is refused here. Assumes nothing.
+-- The tests of the fields at the edges of an arrangement's own limits and relations, and of the voltage from which the dielectric loss
+-- counts, each at equality and one beyond, and the first of two refusals where both are given. A definition that moves an edge is refused
+-- here. Assumes nothing.
 use Rattle.std.specs.Prelude.{◌≡◌, refl, true, false, List, [], ◌∷◌, map, ℕ, set}
 use Rattle.exact.specs.Rounding.{up, down}
 use Rattle.formulas.specs.Constants.{tera, pi_high, ln2_low}
@@ -13,7 +13,6 @@ use Rattle.rating.specs.Values.{B, loss_counts, Wd, soil_T4}
 use Rattle.rating.specs.Arrangement.{axis_limits, no_armour, armourless, alternating}
 use Rattle.rating.specs.BothEnds.{both_ends}
 use Rattle.rating.specs.OnePoint.{one_point}
-use Rattle.rating.specs.SlType.{armour_limits, sl_type}
 use Rattle.rating.specs.CommonSheath.{common_sheath}
 use Rattle.rating.specs.Arrangements.{no_arrangement, arrangement_of}
 use Rattle.rating.specs.Stage10.{numbers_of}
@@ -27,11 +26,11 @@ use Rattle.rating.specs.FieldRefusals.{
   moist,
   further_limits,
   isotherm_unused,
-  unassigned,
   stray_refused,
   geometry_refused,
   heat_refused,
   isotherm_refused,
+  sun_refused,
   metal_refused,
   field_refusals,
   field_refusal,
@@ -49,6 +48,10 @@ having field word = set three_cores field word
 
 abbrev pub having_both : (field word field' word' : ℕ) → List ℕ
 having_both field word field' word' = set (having field word) field' word'
+
+-- that of arrangement 3 with a sheath of aluminium
+abbrev pub wrong_metal : List ℕ
+wrong_metal = set trefoil_one_point 14 2
 
 pub record CommonSheathEdges : Type 0 where
   -- 1: there is no arrangement 7
@@ -83,7 +86,7 @@ pub record CommonSheathEdges : Type 0 where
 
 pub common_sheath_edges : CommonSheathEdges
 unfolding or_refused field_refusals conductor_refused limit_refused conductor_limits sheath_limits thermal_limits moist further_limits
-    isotherm_unused unassigned stray_refused geometry_refused heat_refused isotherm_refused metal_refused arrangement_of no_arrangement
+    isotherm_unused stray_refused geometry_refused heat_refused isotherm_refused sun_refused metal_refused arrangement_of no_arrangement
     both_ends common_sheath axis_limits no_armour armourless
 common_sheath_edges =
     record {
@@ -110,7 +113,7 @@ common_sheath_edges =
       geometry_before_heat = refl;
     }
 
--- the same cable, whose U0 is 12000, with field 26 and the unassigned fields set anew
+-- the same cable, whose U0 is 12000, with field 26 set anew
 
 pub record LossVoltageEdges : Type 0 where
   -- 3: field 26 has its limits
@@ -130,35 +133,21 @@ pub record LossVoltageEdges : Type 0 where
   -- and so for a U0 of 0
   pub no_voltage_from_0 : loss_counts (having_both 26 0 10 0) ≡ true
   pub no_voltage_from_1 : loss_counts (having_both 26 1 10 0) ≡ false
-  -- 4 and not 3: field 29, whatever stands there, in each arrangement
-  pub unassigned_gets_4 : map (λ word. field_refusal (having 29 word)) (1 ∷ 4294967295 ∷ []) ≡ 4 ∷ 4 ∷ []
-  pub unassigned_passes_3 : map (λ word. limit_refused (having 29 word)) (1 ∷ 4294967295 ∷ []) ≡ false ∷ false ∷ []
-  pub unassigned_in_each : map (λ x. field_refusal (set x 29 1)) each ≡ 4 ∷ 4 ∷ 4 ∷ 4 ∷ 4 ∷ 4 ∷ []
   -- of two the earlier: field 26 by 3
   pub arrangement_before_limit : field_refusal (having_both 26 300001 0 7) ≡ 1
   pub conductor_before_limit : field_refusal (having_both 26 300001 1 9) ≡ 2
-  pub limit_before_unassigned : field_refusal (having_both 26 300001 29 1) ≡ 3
   pub limit_before_stray : field_refusal (having_both 26 300001 17 1) ≡ 3
   pub limit_before_geometry : field_refusal (having_both 26 300001 7 1849) ≡ 3
   pub limit_before_heat : field_refusal (having_both 26 300001 16 9001) ≡ 3
-  -- and the unassigned ones by 4
-  pub arrangement_before_unassigned : field_refusal (having_both 29 1 0 7) ≡ 1
-  pub conductor_before_unassigned : field_refusal (having_both 29 1 1 9) ≡ 2
-  pub axis_limit_before_unassigned : field_refusal (having_both 29 1 20 99) ≡ 3
-  pub unassigned_and_stray : field_refusal (having_both 29 1 17 1) ≡ 4
-  pub unassigned_before_geometry : field_refusal (having_both 29 1 7 1849) ≡ 4
-  pub unassigned_before_heat : field_refusal (having_both 29 1 16 9001) ≡ 4
-  pub metal_alone : field_refusal (set trefoil_one_point 14 2) ≡ 7
-  pub limit_before_metal : field_refusal (set (set trefoil_one_point 14 2) 26 300001) ≡ 3
-  pub unassigned_before_metal : field_refusal (set (set trefoil_one_point 14 2) 29 1) ≡ 4
-  pub two_unassigned : field_refusal (having_both 28 1 29 4294967295) ≡ 4
+  pub metal_alone : field_refusal wrong_metal ≡ 7
+  pub limit_before_metal : field_refusal (set wrong_metal 26 300001) ≡ 3
 
 pub loss_voltage_edges : LossVoltageEdges
 unfolding or_refused field_refusals conductor_refused limit_refused conductor_limits sheath_limits thermal_limits moist further_limits
-    isotherm_unused unassigned stray_refused geometry_refused heat_refused isotherm_refused metal_refused arrangement_of no_arrangement
-    both_ends one_point sl_type armour_limits common_sheath axis_limits no_armour armourless loss_counts Wd B soil_T4 soil_ratio
-    soil_resistance alternating dielectric_loss dielectric_resistance dielectric_rise reactance log_low thirteen_terms series first_power
-    doubled octaves doublings pi_high ln2_low tera up down
+    isotherm_unused stray_refused geometry_refused heat_refused isotherm_refused sun_refused metal_refused arrangement_of no_arrangement
+    one_point common_sheath axis_limits no_armour armourless loss_counts Wd B soil_T4 soil_ratio soil_resistance alternating dielectric_loss
+    dielectric_resistance dielectric_rise reactance log_low thirteen_terms series first_power doubled octaves doublings pi_high ln2_low tera
+    up down
 loss_voltage_edges =
     record {
       least_loss_voltage = refl;
@@ -175,23 +164,11 @@ loss_voltage_edges =
       one_above_rise = refl;
       no_voltage_from_0 = refl;
       no_voltage_from_1 = refl;
-      unassigned_gets_4 = refl;
-      unassigned_passes_3 = refl;
-      unassigned_in_each = refl;
       arrangement_before_limit = refl;
       conductor_before_limit = refl;
-      limit_before_unassigned = refl;
       limit_before_stray = refl;
       limit_before_geometry = refl;
       limit_before_heat = refl;
-      arrangement_before_unassigned = refl;
-      conductor_before_unassigned = refl;
-      axis_limit_before_unassigned = refl;
-      unassigned_and_stray = refl;
-      unassigned_before_geometry = refl;
-      unassigned_before_heat = refl;
       metal_alone = refl;
       limit_before_metal = refl;
-      unassigned_before_metal = refl;
-      two_unassigned = refl;
     }

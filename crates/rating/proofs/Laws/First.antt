@@ -1,13 +1,19 @@
 -- The answer to a case by its refusals: it is refused by the first that is given, in the order of the list, and else rated by the stages.
 -- So what `rate` answers can be read off the list of refusals. Assumes nothing.
-use Rattle.std.specs.Prelude.{◌≡◌, refl, List, ℕ}
-use Rattle.std.proofs.Common.{sym, ◌∙◌}
+use Rattle.std.specs.Prelude.{◌≡◌, refl, cond, List, ℕ, eqb}
+use Rattle.std.proofs.Common.{ap, sym, ◌∙◌}
 use Rattle.bools.specs.First.{or_refused}
 use Rattle.bools.proofs.Laws.First.{or_refused_append, by_number}
-use Rattle.rating.specs.FieldRefusals.{field_refusals}
+use Rattle.rating.specs.FieldRefusals.{field_refusals, field_refusal}
 use Rattle.rating.specs.Rate.{refused, rated, loaded, judged, rate_of, rate_of_is}
 use Rattle.rating.specs.StageRefusals.{stage_refusals}
 use Rattle.rating.specs.Refusals.{refusals_of}
+
+-- the number of the answer, by what the answer is for the proofs of this crate
+pub number :
+    (x : List ℕ) {n : ℕ} → (cond (eqb (field_refusal x) 0) (judged x) (refused (field_refusal x))).number ≡ n →
+    (rate_of x).number ≡ n
+number x e = ap (λ a. a.number) (rate_of_is x) ∙ e
 
 pub by_refusals : (x : List ℕ) → rate_of x ≡ or_refused refused (refusals_of x) (rated x)
 unfolding or_refused refusals_of field_refusals stage_refusals judged loaded

@@ -1,10 +1,10 @@
 -- Demand 3 on a case of arrangement 5, a three-core SL type of 124 microhm/m at 19 kV which rates 457.106 A, with fractions chosen for pi,
--- ln 2 and the two logarithms; and on cases of arrangements 3 and 6, which have one logarithm alone, one of them without dielectric loss
--- and one in soil that dries out. So the premises of the theorems are met. Assumes nothing.
+-- ln 2 and the two logarithms; and on cases of arrangements 3 and 6, which have one logarithm alone, one of them without dielectric loss,
+-- one in soil that dries out and one in the sun. So the premises of the theorems are met. Assumes nothing.
 use Rattle.std.specs.Prelude.{◌≡◌, refl, false, List, take, set, ℕ, ◌+◌, ◌*◌, ◌^◌}
 use Rattle.std.proofs.Common.{sym, ap, subst, ◌∙◌, lit<, suc-ne-zero, true≢false}
 use Rattle.exact.specs.Rounding.{up, down}
-use Rattle.exact.specs.Fraction.{Fraction, ◌over◌, whole, ◌+F◌, ◌*F◌, reciprocal, ◌≤F◌, ◌<F◌}
+use Rattle.exact.specs.Fraction.{Fraction, ◌over◌, whole, ◌+F◌, ◌*F◌, reciprocal, ◌≃F◌, ◌≤F◌, ◌<F◌}
 use Rattle.exact.proofs.Laws.Fraction.{closed≤}
 use Rattle.formulas.specs.Tables.{conductor_metal}
 use Rattle.formulas.specs.Resistance.{temperature_factor, resistance}
@@ -12,6 +12,7 @@ use Rattle.formulas.specs.Reactance.{reactance*}
 use Rattle.formulas.specs.Skin.{skin_reactance*, skin_ratio*, factor*, skin_factor*}
 use Rattle.formulas.specs.Proximity.{spacing_ratio*, proximity_h*, proximity_g*, proximity_factor*, ac_resistance*}
 use Rattle.formulas.specs.CommonSheath.{is_first, axis_ratio*, common_ratio*, first_formula*, second_formula*, common_loss*}
+use Rattle.formulas.specs.Sun.{solar_rise}
 use Rattle.formulas.specs.Dielectric.{dielectric_resistance, dielectric_loss*, dielectric_rise*}
 use Rattle.formulas.specs.Rating.{unit_rise*, rise*}
 use Rattle.formulas.specs.Soil.{soil_ratio, soil_resistance, permitted_rise}
@@ -19,7 +20,7 @@ use Rattle.formulas.proofs.Laws.Soil.{none_counts, one_counts}
 use Rattle.formulas.specs.Constants.{tera, pi_low, pi_high, ln2_low, ln2_high}
 use Rattle.formulas.specs.Logarithm.{doublings, octaves, doubled, series, first_power, thirteen_terms, log_low, log_high, IsLog}
 use Rattle.fields.specs.Fields as Field
-use Rattle.rating.specs.Values.{R', Rs, loss_counts, rise_of, isotherm_rise_of, soil_T4, permitted_of}
+use Rattle.rating.specs.Values.{R', Rs, loss_counts, rise_of, isotherm_rise_of, soil_T4, permitted_of, solar_rise_of}
 use Rattle.rating.specs.Chosen.{Chosen, B*, R*, Wd*}
 use Rattle.rating.specs.Arrangement.{alternating, alternating*}
 use Rattle.rating.specs.OnePoint.{one_point}
@@ -27,11 +28,12 @@ use Rattle.rating.specs.CommonSheath.{common_sheath}
 use Rattle.rating.specs.Arrangements.{arrangement_of, own}
 use Rattle.rating.specs.Allowed.{Allowed}
 use Rattle.rating.specs.Rate.{Answer, rated, rate_of}
-use Rattle.rating.specs.Exact.{exact_rise, E*}
+use Rattle.rating.specs.Exact.{numbers_of*, exact_rise, d0*, E*}
 use Rattle.rating.proofs.Laws.LossVoltage.{Counted, counted, Uncounted, uncounted}
 use Rattle.rating.proofs.Laws.Older.{Older, older}
 use Rattle.rating.proofs.Laws.Moist.{AsMoist, AsMoist*, as_moist, as_moist*}
 use Rattle.rating.proofs.Laws.DrySoil.{Dries, dries}
+use Rattle.rating.proofs.Laws.Sun.{InShade, in_shade, sunlit_moist}
 use Rattle.rating.proofs.Laws.Logarithms.{Promised, promised}
 use Rattle.rating.proofs.Laws.Passed.{all_passed, rated_stages}
 use Rattle.rating.proofs.Laws.Margin.{fit, safe, close, nearer}
@@ -43,6 +45,9 @@ use Rattle.rating.proofs.Laws.Answers.{
   low_voltage,
   low_voltage_counted,
   dry_soil,
+  bridge,
+  sunlit,
+  sunlit_older,
   answered,
 }
 
@@ -236,12 +241,50 @@ under_dry = rw (← permitted_dry) (under_at allowed_dry answer_dry)
 over_dry : whole 92500000000 <F exact_rise dry_soil chosen_6 (whole (360793 + 2))
 over_dry = rw (← permitted_dry) (over_at allowed_dry answer_dry)
 
--- the same by computing the exact rise itself, with none of the theorems; at 1 mA more it is not below
-worked_dry :
-    (exact_rise dry_soil chosen_6 (whole 360793) ≤F whole 92500000000)
-    × (whole 92500000000 ≤F exact_rise dry_soil chosen_6 (whole 360794))
-unfolding exact_rise rise* E* unit_rise* common_sheath arrangement_of alternating alternating* B* R* Wd* R' Rs soil_T4 loss_counts
-    ac_resistance* skin_factor* factor* skin_ratio* skin_reactance* proximity_factor* spacing_ratio* proximity_g* proximity_h* common_loss*
-    axis_ratio* common_ratio* first_formula* second_formula* is_first reactance* dielectric_loss* dielectric_rise* dielectric_resistance
-    soil_resistance soil_ratio resistance temperature_factor conductor_metal ◌+F◌ ◌*F◌ reciprocal
-worked_dry = (closed≤ tt, closed≤ tt)
+-- the cable on the bridge in the shade, where the sun's rise is 0; and in the sun, whose 10.3 K with dd leave the current 49.6 K of 60 K
+
+shade : InShade bridge
+shade = in_shade bridge refl
+
+shade* : d0* bridge chosen_6 ≃F (numbers_of* bridge chosen_6).dd
+unfolding common_sheath arrangement_of alternating* B* Wd* loss_counts reactance* dielectric_loss* dielectric_rise* ◌*F◌ reciprocal
+shade* = shade.rise* chosen_6 (lit< tt)
+
+pub allowed_sun : Allowed (own sunlit) sunlit chosen_6
+unfolding arrangement_of common_sheath
+allowed_sun = without_spacing_allowed sunlit _ refl three_cores_log
+
+pub answer_sun : ((rate_of sunlit).number ≡ 0) × ((rate_of sunlit).rating ≡ 579762)
+answer_sun = number_and_rating _ answered.sunlit_6
+
+pub answer_sun_older : ((rate_of sunlit_older).number ≡ 0) × ((rate_of sunlit_older).rating ≡ 637128)
+answer_sun_older = number_and_rating _ answered.sunlit_6_older
+
+sunlit_as_moist : AsMoist sunlit
+sunlit_as_moist = sunlit_moist sunlit (all_passed sunlit answer_sun.0).fields (suc-ne-zero 33479)
+
+permitted_sun : permitted_of sunlit ≡ 60000000000
+unfolding permitted_of permitted_rise soil_ratio rise_of isotherm_rise_of
+permitted_sun = refl
+
+under_sun : exact_rise sunlit chosen_6 (whole 579762) ≤F whole 60000000000
+under_sun = rw (← permitted_sun) (under_at allowed_sun answer_sun)
+
+over_sun : whole 60000000000 <F exact_rise sunlit chosen_6 (whole (579762 + 2))
+over_sun = rw (← permitted_sun) (over_at allowed_sun answer_sun)
+
+-- the last two by computing the exact rise itself, with none of the theorems: at the rating it is not above, and at 1 mA more not below
+record Worked : Type 0 where
+  dry :
+      (exact_rise dry_soil chosen_6 (whole 360793) ≤F whole 92500000000)
+      × (whole 92500000000 ≤F exact_rise dry_soil chosen_6 (whole 360794))
+  sun :
+      (exact_rise sunlit chosen_6 (whole 579762) ≤F whole 60000000000)
+      × (whole 60000000000 ≤F exact_rise sunlit chosen_6 (whole 579763))
+
+worked : Worked
+unfolding exact_rise d0* solar_rise_of solar_rise rise* E* unit_rise* common_sheath arrangement_of alternating alternating* B* R* Wd* R'
+    Rs soil_T4 loss_counts ac_resistance* skin_factor* factor* skin_ratio* skin_reactance* proximity_factor* spacing_ratio* proximity_g*
+    proximity_h* common_loss* axis_ratio* common_ratio* first_formula* second_formula* is_first reactance* dielectric_loss*
+    dielectric_rise* dielectric_resistance soil_resistance soil_ratio resistance temperature_factor conductor_metal ◌+F◌ ◌*F◌ reciprocal
+worked = record { dry = (closed≤ tt, closed≤ tt); sun = (closed≤ tt, closed≤ tt) }

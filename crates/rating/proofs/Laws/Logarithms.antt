@@ -1,5 +1,5 @@
--- The logarithms of a case that refusals 1 to 7 and 31 let pass: stage 5's promises of each that its arrangement has, and fractions that
--- may stand for them, for pi and for ln 2. So what is proved of all such fractions is proved of some. Assumes nothing.
+-- The logarithms of a case that the refusals of the fields let pass: stage 5's promises of each that its arrangement has, and fractions
+-- that may stand for them, for pi and for ln 2. So what is proved of all such fractions is proved of some. Assumes nothing.
 use Rattle.std.specs.Prelude.{◌≡◌, true, List, ℕ, ◌*◌}
 use Rattle.formulas.proofs.Laws.LogEndsOrder.{pi_exists, ln2_exists, log_exists}
 use Rattle.formulas.proofs.Laws.LogPromised.{LogPromised, spacing_promised, insulation_promised}

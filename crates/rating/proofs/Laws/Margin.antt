@@ -14,14 +14,14 @@ use Rattle.rating.specs.Values.{permitted_of}
 use Rattle.rating.specs.Chosen.{Chosen}
 use Rattle.rating.specs.Arrangements.{own}
 use Rattle.rating.specs.Allowed.{Allowed}
-use Rattle.rating.specs.Stage10.{numbers_of, N, E, current_of}
+use Rattle.rating.specs.Stage10.{d0, N, E, current_of}
 use Rattle.rating.specs.Rate.{rated, rate_of}
-use Rattle.rating.specs.Exact.{numbers_of*, E*, exact_rise}
+use Rattle.rating.specs.Exact.{E*, d0*, exact_rise}
 use Rattle.rating.proofs.Laws.Sound.{sound}
 use Rattle.rating.proofs.Laws.Ranges.{permitted_range}
 use Rattle.rating.specs.Laws.Fit.{Fit}
 use Rattle.rating.proofs.Laws.Passed.{Passed, all_passed}
-use Rattle.rating.proofs.Laws.Stage10.{E_range, dd_close, E_close}
+use Rattle.rating.proofs.Laws.Stage10.{E_range, d0_close, E_close}
 
 pub fit : {x : List ℕ} → Passed x → Fit (own x) x
 unfolding skin_refused eddy_refused
@@ -39,16 +39,16 @@ fit {x} p =
     }
 
 module _ {x : List ℕ} {c : Chosen} (allowed : Allowed (own x) x c) (p : Passed x) where
-  share : 10 * (numbers_of x).dd ≤ 9 * permitted_of x
+  share : 10 * d0 x ≤ 9 * permitted_of x
   unfolding dielectric_refused
-  share = ltb-false (9 * permitted_of x) (10 * (numbers_of x).dd) p.dielectric
+  share = ltb-false (9 * permitted_of x) (10 * d0 x) p.dielectric
 
-  rated_at : Stage10 (E* x c) (numbers_of* x c).dd (E x) (numbers_of x).dd (N x) (permitted_of x) (current_of x)
+  rated_at : Stage10 (E* x c) (d0* x c) (E x) (d0 x) (N x) (permitted_of x) (current_of x)
   unfolding current_refused current_of N current_rise
   rated_at =
       record {
         e_close = E_close (fit p) allowed;
-        dd_close = dd_close (fit p) allowed;
+        d0_close = d0_close (fit p) allowed;
         left = omega (arith, share);
         shares = share;
         warm = (permitted_range (fit p).sound).least;

@@ -7,7 +7,7 @@ use Rattle.rating.specs.FieldRefusals.{field_refusal}
 use Rattle.rating.specs.StageRefusals.{skin_refused, eddy_refused, dielectric_refused, current_refused}
 use Rattle.rating.specs.Rate.{Answer, refused, rated, loaded, judged, rate_of, rate_of_is}
 
--- none of 1 to 7 and 31 was given, and the answer is what follows
+-- no refusal of the fields was given, and the answer is what follows
 fields_passed :
     (none_given : Bool) (n : ℕ) (rest : Answer) → eqb n 0 ≡ none_given → (cond none_given rest (refused n)).number ≡ 0 →
     (n ≡ 0) × (cond none_given rest (refused n) ≡ rest)

@@ -20,6 +20,7 @@ use Rattle.formulas.specs.Laws.Bounds.{
   most_resistance,
   most_sheath_reactance,
   most_skin_factor,
+  most_solar_rise,
   most_spacing_log,
   most_t4,
 }
@@ -38,7 +39,7 @@ use Rattle.formulas.proofs.Laws.Soil.{soil_resistance_range, permitted_rise_rang
 use Rattle.formulas.specs.Laws.Ranges.{In}
 use Rattle.stages.specs.Laws.Ranges.{ThermalRanges, CirculatingRanges}
 use Rattle.fields.specs.Fields as Field
-use Rattle.rating.specs.Values.{R', Rs, B, zs, zp, ys, G, yp, R, X, XLow, Wd, loss_counts, rise_of, soil_T4, permitted_of}
+use Rattle.rating.specs.Values.{R', Rs, B, zs, zp, ys, G, yp, R, X, XLow, Wd, loss_counts, rise_of, soil_T4, permitted_of, solar_rise_of}
 use Rattle.rating.specs.Laws.Sound.{Sound}
 use Rattle.rating.proofs.Laws.Rise.{above_cold, rise_range, isotherm_rise_most}
 
@@ -99,6 +100,10 @@ module _ {x : List ℕ} (fine : Sound x) where
   permitted_range =
       let rise = rise_range fine in
       permitted_rise_range (Field.dry_ratio x) fine.ratio (record { least = rise.least; most = rise.most }) (isotherm_rise_most fine)
+
+  pub solar_rise_most : solar_rise_of x ≤ most_solar_rise
+  unfolding solar_rise_of
+  solar_rise_most = Law.solar_rise_most fine.solar_heat.most fine.t4.most
 
   -- T1 to T4, which stages 9 and 10 take
   pub thermal_ranges :

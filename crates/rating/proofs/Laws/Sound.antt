@@ -1,9 +1,9 @@
--- What a case promises once none of refusals 1 to 7 and 31 is given: each limit and each relation that every arrangement asks for as a
--- fact, which the stages and the bounds on them take. What an arrangement asks for besides stays a test, which its own laws open. Assumes
+-- What a case promises once no refusal of the fields is given: each limit and each relation that every arrangement asks for as a fact,
+-- which the stages and the bounds on them take. What an arrangement asks for besides stays a test, which its own laws open. Assumes
 -- nothing.
 use Rattle.std.specs.Prelude.{◌≡◌, refl, Bool, true, false, cond, not, ◌||◌, List, ℕ, suc, T, eqb, leb, ℤ, ◌≤ℤ◌}
 use Rattle.std.proofs.Math.Path.{subst⁻¹}
-use Rattle.std.proofs.Common.{true≢false, suc-ne-zero, leb-true, lit≤}
+use Rattle.std.proofs.Common.{true≢false, suc-ne-zero, eqb-true, leb-true, lit≤}
 use Rattle.std.specs.Int.Signed.{le_z, le_z_yes}
 use Rattle.bools.specs.First.{or_refused}
 use Rattle.bools.proofs.Laws.Tests.{both, other_of, either_by}
@@ -23,6 +23,7 @@ use Rattle.rating.specs.FieldRefusals.{
   geometry_refused,
   heat_refused,
   isotherm_refused,
+  sun_refused,
   field_refusals,
   field_refusal,
 }
@@ -53,7 +54,7 @@ holds : (b : Bool) → not b ≡ false → b ≡ true
 holds true e = refl
 holds false e = absurd (true≢false e)
 
--- none of refusals 1 to 7 and 31 is given
+-- no refusal of the fields is given
 record Unrefused (x : List ℕ) : Type 0 where
   arrangement : arrangement_refused x ≡ false
   conductor : conductor_refused x ≡ false
@@ -61,6 +62,7 @@ record Unrefused (x : List ℕ) : Type 0 where
   geometry : geometry_refused x ≡ false
   heat : heat_refused x ≡ false
   isotherm : isotherm_refused x ≡ false
+  sun : sun_refused x ≡ false
 
 unrefused : (x : List ℕ) → field_refusal x ≡ 0 → Unrefused x
 unfolding or_refused field_refusals
@@ -71,8 +73,17 @@ unrefused x none_given =
     let four = passed (stray_refused x) 3 three.1 in
     let five = passed (geometry_refused x) 4 four.1 in
     let six = passed (heat_refused x) 5 five.1 in
-    let seven = passed (isotherm_refused x) 30 six.1 in
-    record { arrangement = one.0; conductor = two.0; limits = three.0; geometry = five.0; heat = six.0; isotherm = seven.0 }
+    let isotherm = passed (isotherm_refused x) 30 six.1 in
+    let sun = passed (sun_refused x) 31 isotherm.1 in
+    record {
+      arrangement = one.0;
+      conductor = two.0;
+      limits = three.0;
+      geometry = five.0;
+      heat = six.0;
+      isotherm = isotherm.0;
+      sun = sun.0;
+    }
 
 -- ρ as it counts, where it is 0 or within its limits
 ratio_range : (ρ : ℕ) → eqb ρ 0 || within 1000 5000 ρ ≡ true → In 1000 5000 (soil_ratio ρ)
@@ -83,7 +94,7 @@ ratio_range ρ e =
 
 pub sound : (x : List ℕ) → field_refusal x ≡ 0 → Sound x
 unfolding conductor_refused limit_refused conductor_limits sheath_limits thermal_limits further_limits moist
-    geometry_refused heat_refused isotherm_refused
+    geometry_refused heat_refused isotherm_refused sun_refused
 sound x none_given =
     let given : Unrefused x = unrefused x none_given in
     let its_own = both _ _ (holds _ given.limits) in
@@ -109,8 +120,9 @@ sound x none_given =
     let t4 = both _ _ thermal.1 in
     let t3 = both _ _ t4.0 in
     let t1 = both _ _ t3.0 in
-    -- fields 26 to 28, from the last
-    let isotherm = both _ _ further.1 in
+    -- fields 26 to 29, from the last
+    let solar_heat = both _ _ further.1 in
+    let isotherm = both _ _ solar_heat.0 in
     let ratio = both _ _ isotherm.0 in
     -- geometry and heat
     let placed = both _ _ (holds _ given.geometry) in
@@ -139,11 +151,13 @@ sound x none_given =
       t4 = in_range _ _ _ t4.1;
       ratio = ratio_range _ ratio.1;
       isotherm = in_range_z _ _ _ isotherm.1;
+      solar_heat = in_range _ _ _ solar_heat.1;
       core = leb-true _ _ core.0;
       insulated = leb-true _ _ core.1;
       sheathed = leb-true _ _ sheathed.1;
       rise = le_z_true _ _ rise.0;
       isotherm_between = λ dries. in_range_z _ _ _ (other_of _ _ (holds _ given.isotherm) dries);
+      shaded = λ dries. eqb-true _ _ (other_of _ _ (holds _ given.sun) dries);
       known = holds _ given.arrangement;
       limits = its_own.1;
       geometry = placed.1;

@@ -1,21 +1,24 @@
--- Stage 10 of a case from its arrangement's numbers alone: the range of E, and how close E and dd lie to their exact values.
+-- Stage 10 of a case from its arrangement's numbers alone: the range of E, and how close E and d0 lie to their exact values.
 -- Assumes nothing.
-use Rattle.std.specs.Prelude.{List, ℕ, ◌≤◌}
+use Rattle.std.specs.Prelude.{List, ℕ, ◌+◌, ◌≤◌}
+use Rattle.std.proofs.Common.{sym, add-le-add, lit<}
 use Rattle.exact.specs.Fraction.{whole}
+use Rattle.exact.proofs.Laws.Fraction.{whole-+F}
 use Rattle.exact.specs.Error.{Within}
-use Rattle.formulas.specs.Laws.Bounds.{least_unit_rise, most_unit_rise}
+use Rattle.exact.proofs.Laws.Error.{within_plus}
+use Rattle.formulas.specs.Laws.Bounds.{most_dielectric_rise, most_solar_rise, least_unit_rise, most_unit_rise}
 use Rattle.formulas.specs.Laws.Ranges.{In}
 use Rattle.formulas.proofs.Laws.Ranges.{unit_rise_least, unit_rise_most}
 use Rattle.formulas.proofs.Laws.CloseUnitRise.{unit_rise_close}
 use Rattle.fields.specs.Fields as Field
-use Rattle.rating.specs.Values.{soil_T4}
+use Rattle.rating.specs.Values.{soil_T4, solar_rise_of}
 use Rattle.rating.specs.Chosen.{Chosen}
 use Rattle.rating.specs.Arrangements.{own}
 use Rattle.rating.specs.Allowed.{Allowed}
-use Rattle.rating.specs.Stage10.{numbers_of, E}
-use Rattle.rating.specs.Exact.{numbers_of*, E*}
+use Rattle.rating.specs.Stage10.{numbers_of, d0, E}
+use Rattle.rating.specs.Exact.{numbers_of*, E*, d0*}
 use Rattle.rating.specs.Laws.Fit.{Fit}
-use Rattle.rating.proofs.Laws.Ranges.{soil_T4_range}
+use Rattle.rating.proofs.Laws.Ranges.{soil_T4_range, solar_rise_most}
 use Rattle.rating.proofs.Laws.Arrangement.{InRange, Close}
 use Rattle.rating.proofs.Laws.Arrangements.{lawful}
 
@@ -25,6 +28,10 @@ module _ {x : List ℕ} (fit : Fit (own x) x) where
 
   pub numbers_in_range : InRange (numbers_of x)
   numbers_in_range = (lawful (Field.arrangement x)).in_range fit
+
+  pub d0_most : d0 x ≤ most_dielectric_rise + most_solar_rise
+  unfolding d0
+  d0_most = add-le-add numbers_in_range.dd (solar_rise_most fit.sound)
 
   pub E_range : In least_unit_rise most_unit_rise (E x)
   unfolding E
@@ -41,8 +48,10 @@ module _ {x : List ℕ} (fit : Fit (own x) x) where
     numbers_close : Close (numbers_of* x c) (numbers_of x)
     numbers_close = (lawful (Field.arrangement x)).close allowed fit
 
-    pub dd_close : Within 2500 (whole 2) (numbers_of* x c).dd (whole (numbers_of x).dd)
-    dd_close = numbers_close.dd
+    -- the sun's rise is the same in both
+    pub d0_close : Within 2500 (whole 2) (d0* x c) (whole (d0 x))
+    unfolding d0* d0
+    d0_close = rw (sym (whole-+F (numbers_of x).dd (solar_rise_of x))) (within_plus (whole (solar_rise_of x)) (lit< tt) numbers_close.dd)
 
     pub E_close : Within 160000 (whole 0) (E* x c) (whole (E x))
     unfolding E* E

@@ -1,4 +1,4 @@
--- What refusals 1 to 9 and 31 leave of a case in an arrangement: the facts that every bound on its numbers takes. Assumes nothing.
+-- What the refusals before 10 leave of a case in an arrangement: the facts that every bound on its numbers takes. Assumes nothing.
 use Rattle.std.specs.Prelude.{◌≡◌, true, List, ℕ, ◌*◌, ◌≤◌}
 use Rattle.formulas.specs.Refusals.{skin_limit}
 use Rattle.rating.specs.Values.{Rs, B, zs, zp}

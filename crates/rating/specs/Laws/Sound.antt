@@ -1,5 +1,5 @@
--- What a case promises once none of refusals 1 to 7 and 31 is given: each limit and each relation that every arrangement asks for as a
--- fact, which the stages and the bounds on them take. What an arrangement asks for besides stays a test, which its own laws open. Assumes
+-- What a case promises once no refusal of the fields is given: each limit and each relation that every arrangement asks for as a fact,
+-- which the stages and the bounds on them take. What an arrangement asks for besides stays a test, which its own laws open. Assumes
 -- nothing.
 use Rattle.std.specs.Prelude.{◌≡◌, true, false, List, ℕ, ◌*◌, ◌≤◌, ℤ, pos, neg_ℤ, ◌-ℤ◌, ◌≤ℤ◌}
 use Rattle.formulas.specs.Soil.{soil_ratio}
@@ -35,11 +35,13 @@ pub record Sound (x : List ℕ) : Type 0 where
   pub t4 : In 10000 20000000 (Field.t4 x)
   pub ratio : In 1000 5000 (soil_ratio (Field.dry_ratio x))
   pub isotherm : InZ (neg_ℤ (pos 4000)) (pos 25000) (Field.isotherm x)
+  pub solar_heat : In 0 200000 (Field.solar_heat x)
   pub core : Field.conductor_diameter x ≤ Field.screen_diameter x
   pub insulated : 105 * Field.screen_diameter x ≤ 100 * Field.insulation_diameter x
   pub sheathed : Field.insulation_diameter x ≤ Field.sheath_diameter x
   pub rise : pos 500 ≤ℤ (Field.conductor_temperature x -ℤ Field.ambient_temperature x)
   pub isotherm_between : moist x ≡ false → InZ (Field.ambient_temperature x) (Field.conductor_temperature x) (Field.isotherm x)
+  pub shaded : moist x ≡ false → Field.solar_heat x ≡ 0
   pub known : (own x).known ≡ true
   pub limits : (own x).limits x ≡ true
   pub geometry : (own x).geometry x ≡ true

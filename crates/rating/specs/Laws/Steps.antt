@@ -14,7 +14,8 @@ use Rattle.rating.specs.Values.{R', zs, zp, ys, yp, R, soil_T4, permitted_of}
 use Rattle.rating.specs.Arrangement.{Arrangement, alternating}
 use Rattle.rating.specs.Arrangements.{own}
 use Rattle.rating.specs.FieldRefusals.{field_refusal}
-use Rattle.rating.specs.Stage10.{numbers_of, E}
+use Rattle.rating.specs.Stage10 as Stage10
+use Rattle.rating.specs.Stage10.{E}
 use Rattle.rating.specs.Rate.{refused, rate_of}
 use Rattle.rating.specs.Laws.Sound.{InZ}
 use Rattle.rating.specs.Laws.Fit.{Fit}
@@ -59,7 +60,7 @@ pub record Asks (a : Arrangement) (x : List ℕ) (r : Rules) : Type 0 where
   pub metal : r.metal ≡ a.metal x
   pub eddies : r.eddies ≡ a.eddies
 
--- the first of refusals 1 to 7 and 31 that is given, or none is
+-- the first refusal of the fields that is given, or none is
 abbrev pub ChecksFields : List ℕ → Result (Unit {0}) Refusal → Type 0
 ChecksFields x r = MatchResult r (λ _. field_refusal x ≡ 0) (λ refusal. field_refusal x ≡ number_of refusal)
 
@@ -75,9 +76,9 @@ pub record Loses (a : Arrangement) (x : List ℕ) (l : Losses) : Type 0 where
   pub ra_is : l.ra ≡ a.RA x
   pub x_is : l.x ≡ a.X x
 
--- the permitted rise, dd, which refusal 10 lets pass, and E of the case x
-pub record Warms (x : List ℕ) (permitted dd e : ℕ) : Type 0 where
+-- the permitted rise, d0, which refusal 10 lets pass, and E of the case x
+pub record Warms (x : List ℕ) (permitted d0 e : ℕ) : Type 0 where
   pub permitted_is : permitted ≡ permitted_of x
-  pub dd_is : dd ≡ (numbers_of x).dd
+  pub d0_is : d0 ≡ Stage10.d0 x
   pub e_is : e ≡ E x
-  pub share : 10 * dd ≤ 9 * permitted
+  pub share : 10 * d0 ≤ 9 * permitted

@@ -22,6 +22,6 @@ pub returns : goal.returns
 unfolding current_of N current_rise
 returns c =
     let permitted = c.requires.permitted_is in
-    let dd = c.requires.dd_is in
+    let d0 = c.requires.d0_is in
     let e = c.requires.e_is in
-    c.rating.ensures ∙ (λ i. rating (permitted i - dd i) (e i))
+    c.rating.ensures ∙ (λ i. rating (permitted i - d0 i) (e i))

@@ -1,18 +1,18 @@
 -- `loaded` is the definition: refusals 10 and 11 are its tests, and the sheet is in order.
-use Rattle.std.proofs.Common.{[], ap, arith, le-ltb, lt-ltb, ltb, subst, sym, ◌*◌, ◌∙◌, ◌∷◌, ◌≡◌}
+use Rattle.std.proofs.Common.{[], ap, arith, le-ltb, lt-ltb, ltb, subst, sym, ◌+◌, ◌*◌, ◌∙◌, ◌∷◌, ◌≡◌}
 use Rattle.formulas.specs.Refusals as Test
 use Rattle.rating.specs.Arrangement.{alternating}
 use Rattle.rating.specs.Arrangements.{own}
 use Rattle.rating.specs.Laws.Steps.{Loses}
 use Rattle.rating.proofs.Own.{loses}
 use Rattle.rating.specs.StageRefusals.{dielectric_refused}
-use Rattle.rating.specs.Stage10.{numbers_of}
+use Rattle.rating.specs.Stage10.{numbers_of, d0}
 use Rattle.rating.specs.Rate.{refused, rated, loaded, sheet_of}
 use Rattle.rating.proofs.Laws.Ranges.{permitted_range}
 use Rattle.rating.proofs.Laws.Arrangement.{InRange}
-use Rattle.rating.proofs.Laws.Stage10.{numbers_in_range}
+use Rattle.rating.proofs.Laws.Stage10.{numbers_in_range, d0_most}
 use Rattle.rating.proofs.judge.FitCase.loaded.Goals as goal
-use Rattle.rating.proofs.judge.FitCase.loaded.Goals.{After-losses-l, After-dielectric_rise-dd, After-permitted-permitted}
+use Rattle.rating.proofs.judge.FitCase.loaded.Goals.{After-losses-l, After-dielectric_rise-dd, After-solar_rise, After-permitted-permitted}
 
 -- the losses are those of the case's own arrangement
 own_losses : (c : After-losses-l) → Loses (own c.args.self.now.case.x) c.args.self.now.case.x c.losses-l.result
@@ -22,16 +22,24 @@ dd_is : (c : After-dielectric_rise-dd) → c.dielectric_rise-dd.result ≡ (numb
 unfolding alternating
 dd_is c = c.dielectric_rise-dd.ensures ∙ sym (ap (λ ν. ν.dd) (own_losses c.before.before).numbers_are)
 
+-- what the code adds up is d0
+d0_is : (c : After-solar_rise) → c.dielectric_rise-dd.result + c.solar_rise.result ≡ d0 c.args.self.now.case.x
+unfolding d0
+d0_is c =
+    let dd = dd_is c.before in
+    let sun = c.solar_rise.ensures in
+    λ i. dd i + sun i
+
 -- the code's test of refusal 10 is the definition's
 hot :
     (c : After-permitted-permitted) →
     let x = c.args.self.now.case.x in
-    dielectric_refused x ≡ ltb (9 * c.permitted-permitted.result) (10 * c.dielectric_rise-dd.result)
+    dielectric_refused x ≡ ltb (9 * c.permitted-permitted.result) (10 * (c.dielectric_rise-dd.result + c.solar_rise.result))
 unfolding Test.dielectric_refused
 hot c =
-    let dd = sym (dd_is c.before) in
+    let weighed = sym (d0_is c.before) in
     let permitted = sym c.permitted-permitted.ensures in
-    λ i. ltb (9 * permitted i) (10 * dd i)
+    λ i. ltb (9 * permitted i) (10 * weighed i)
 
 pub dielectric_rise-dd-requires : goal.dielectric_rise-dd-requires
 unfolding alternating
@@ -45,24 +53,26 @@ dielectric_rise-dd-requires c =
 pub overflow_mul-permitted : goal.overflow_mul-permitted
 overflow_mul-permitted c = omega (arith, c.permitted-permitted.ensures, permitted_range c.args.self.now.fit.sound)
 
-pub overflow_mul-dd : goal.overflow_mul-dd
-overflow_mul-dd c =
-    omega (arith, dd_is (goal.at.overflow_mul-dd c).After-dielectric_rise-dd, (numbers_in_range c.args.self.now.fit).dd)
+pub overflow_add-d0 : goal.overflow_add-d0
+overflow_add-d0 c = omega (arith, d0_is (goal.at.overflow_add-d0 c).After-solar_rise, d0_most c.args.self.now.fit)
 
-pub returns-then-permitted-dd : goal.returns-then-permitted-dd
+pub overflow_mul-d0 : goal.overflow_mul-d0
+overflow_mul-d0 c = omega (arith, d0_is (goal.at.overflow_mul-d0 c).After-solar_rise, d0_most c.args.self.now.fit)
+
+pub returns-then-permitted-d0 : goal.returns-then-permitted-d0
 unfolding loaded refused
-returns-then-permitted-dd c =
+returns-then-permitted-d0 c =
     sym
     (c.args.self.now.answer
-    ∙ simp (hot (goal.at.returns-then-permitted-dd c).After-permitted-permitted ∙ lt-ltb _ _ c.if-permitted-dd.true))
+    ∙ simp (hot (goal.at.returns-then-permitted-d0 c).After-permitted-permitted ∙ lt-ltb _ _ c.if-permitted-d0.true))
 
 pub current-i-requires : goal.current-i-requires
 current-i-requires c =
     record {
       permitted_is = c.permitted-permitted.ensures;
-      dd_is = dd_is (goal.at.current-i-requires c).After-dielectric_rise-dd;
+      d0_is = d0_is (goal.at.current-i-requires c).After-solar_rise;
       e_is = c.unit_rise-e.ensures;
-      share = c.if-permitted-dd.false;
+      share = c.if-permitted-d0.false;
     }
 
 pub returns-then-i-gt-MOST_CURRENT : goal.returns-then-i-gt-MOST_CURRENT
@@ -71,7 +81,7 @@ returns-then-i-gt-MOST_CURRENT c =
     let over = ap (ltb 5000000) (sym c.current-i.ensures) ∙ lt-ltb _ _ c.if-i-gt-MOST_CURRENT.true in
     sym
     (c.args.self.now.answer
-    ∙ simp (hot (goal.at.returns-then-i-gt-MOST_CURRENT c).After-permitted-permitted ∙ le-ltb _ _ c.if-permitted-dd.false, over))
+    ∙ simp (hot (goal.at.returns-then-i-gt-MOST_CURRENT c).After-permitted-permitted ∙ le-ltb _ _ c.if-permitted-d0.false, over))
 
 pub returns : goal.returns
 unfolding loaded Test.current_refused rated sheet_of alternating
@@ -82,7 +92,7 @@ returns c =
     let s = sym (ap (λ ν. ν.S) l.numbers_are) in
     let w = sym (ap (λ ν. ν.W) l.numbers_are) in
     let under = ap (ltb 5000000) (sym c.current-i.ensures) ∙ le-ltb _ _ c.if-i-gt-MOST_CURRENT.false in
-    simp (p.answer, hot (goal.at.returns c).After-permitted-permitted ∙ le-ltb _ _ c.if-permitted-dd.false, under)
+    simp (p.answer, hot (goal.at.returns c).After-permitted-permitted ∙ le-ltb _ _ c.if-permitted-d0.false, under)
     (λ j.
     record {
       number = 0;

@@ -206,7 +206,7 @@ impl Cable {
     }
 
     /// The rating in amperes: in dry soil by 1.4.2.1, in the sun, where T4 is T4* and the
-    /// heat taken up σ D*e H, by 1.4.4. With v = 1 and no heat both are 1.4.1.1.
+    /// heat taken up σ De* H, by 1.4.4. With v = 1 and no heat both are 1.4.1.1.
     pub fn rating(&self) -> f64 {
         let three_cores = matches!(self.arrangement, 5 | 6);
         let n = if three_cores { 3.0 } else { 1.0 };

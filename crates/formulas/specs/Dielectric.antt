@@ -17,7 +17,7 @@ dielectric_resistance n t1 t2 t3 t4 = 1000 * t1 + 2 * n * (1000 * (t2 + t3) + t4
 unfoldable pub dielectric_rise : ℕ → ℕ → ℕ → ℕ → ℕ → ℕ → ℕ
 dielectric_rise n wd t1 t2 t3 t4 = up (wd * dielectric_resistance n t1 t2 t3 t4) (2 * 10 ^ 12)
 
--- the paper's N, from the permitted rise and the paper's d0, the rise with no current. Refusal 10 keeps d0 below it.
+-- the paper's N, from the permitted rise and the paper's d0, the rise with no current. Refusal 10 keeps d0 below the permitted rise.
 unfoldable pub current_rise : ℕ → ℕ → ℕ
 current_rise permitted d0 = permitted - d0
 

@@ -1,5 +1,5 @@
 -- The sun, on a case. Where field 29 is 0, d0 is dd, rounded and exact: such a case is rated as it was before there was a sun. And where it
--- is not, refusal 32 leaves soil that does not dry out, so that the T4 which the sun's heat meets is that of E and dd. Assumes nothing.
+-- is not, refusal 32 leaves soil that does not dry out, so that the sun's heat passes through the T4 of E and dd. Assumes nothing.
 use Rattle.std.specs.Prelude.{◌≡◌, refl, List, ℕ, ◌*◌, ◌<◌, eqb}
 use Rattle.std.proofs.Common.{ap, arith}
 use Rattle.bools.proofs.Laws.Tests.{either_by}

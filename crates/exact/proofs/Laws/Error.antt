@@ -73,6 +73,11 @@ within_weaken r≤s c≤d p =
           ≤F_trans p.close (+F_mono (≤F_refl _ p.below.left) (excess_mono r≤s c≤d (≤F_refl _ p.below.right)));
     }
 
+-- a whole number is within any bound of itself
+pub within_itself : {r c : ℕ} (n : ℕ) → Within r (whole c) (whole n) (whole n)
+within_itself n =
+    within_weaken zero-le (record { left = lit< tt; right = lit< tt; across = zero-le }) (within_refl (≤F_refl (whole n) (lit< tt)))
+
 pub within_trans : {r s : ℕ} {c d x y z : Fraction} → Within r c x y → Within s d y z → Within (r + s) (c +F d) x z
 within_trans {r} {s} {c} {d} {x} {y} {z} p q =
     let x≤x = ≤F_refl x p.below.left in

@@ -2,29 +2,41 @@
 // lends together with the length used. Each operation tries its refusals
 // before it writes anything, so a refused one changes no byte.
 
-use crate::rating::{rate, Words, OLDER_WIDTH, WIDTH};
+use crate::rating::{rate, Rated, Words, DIRECT_CURRENT, OLDER_WIDTH, WIDTH};
 
 pub const TRAILER_LENGTH: usize = 16;
 pub const GREATEST_COUNT: usize = 100_000;
 
 /// What a book's mark says of its records: each is the first inputs of its case,
-/// then the answer and the rating.
+/// then the answer and the rating; and up to which arrangement a case is rated.
 #[derive(Clone, Copy, Debug, PartialEq, Eq)]
 pub struct Layout {
     pub mark: [u8; 4],
     pub inputs: usize,
+    pub last_arrangement: u32,
 }
 
 impl Layout {
     pub const fn record_length(&self) -> usize {
         4 * (self.inputs + 2)
     }
+
+    /// What a case gets by the rule of the books of this mark.
+    pub fn rate(&self, case: &Words) -> Rated {
+        if case[0] > self.last_arrangement {
+            Rated::refused(1)
+        } else {
+            rate(case)
+        }
+    }
 }
 
-/// Of books that are read and accepted, but no longer written.
-pub const RBK1: Layout = Layout { mark: *b"RBK1", inputs: OLDER_WIDTH };
+/// Of books that are read and accepted, but no longer written. Direct current came
+/// after them.
+pub const RBK1: Layout =
+    Layout { mark: *b"RBK1", inputs: OLDER_WIDTH, last_arrangement: DIRECT_CURRENT - 1 };
 /// Of those that start and append write.
-pub const RBK2: Layout = Layout { mark: *b"RBK2", inputs: WIDTH };
+pub const RBK2: Layout = Layout { mark: *b"RBK2", inputs: WIDTH, last_arrangement: DIRECT_CURRENT };
 
 pub const LAYOUTS: [Layout; 2] = [RBK1, RBK2];
 
@@ -112,9 +124,9 @@ fn put_trailer(buffer: &mut [u8], at: usize, count: usize) {
     put_word(buffer, at + 12, RECORD_LENGTH as u32);
 }
 
-/// The record that a case gets.
-fn record_of(case: &Words) -> Record {
-    let rated = rate(case);
+/// The record that a case gets in a book of a layout.
+fn record_of(layout: Layout, case: &Words) -> Record {
+    let rated = layout.rate(case);
     let mut record = [0; WIDTH + 2];
     record[..WIDTH].copy_from_slice(case);
     record[ANSWER] = rated.answer;
@@ -163,7 +175,7 @@ pub fn append(buffer: &mut [u8], used: usize, case: &Words) -> Result<usize, Ref
         return Err(Refusal::Space);
     }
     let first_byte = used - TRAILER_LENGTH;
-    for (field, word) in record_of(case).into_iter().enumerate() {
+    for (field, word) in record_of(RBK2, case).into_iter().enumerate() {
         put_word(buffer, first_byte + 4 * field, word);
     }
     put_trailer(buffer, first_byte + RECORD_LENGTH, count + 1);
@@ -185,7 +197,7 @@ pub fn accept(buffer: &[u8], used: usize) -> Result<Parts, Refusal> {
     let (layout, parts) = parts(buffer, used, &LAYOUTS)?;
     for index in 0..parts.count {
         let record = record_at(buffer, layout, parts, index);
-        if record != record_of(&case_of(&record)) {
+        if record != record_of(layout, &case_of(&record)) {
             return Err(Refusal::Disagrees(index + 1));
         }
     }

@@ -1,11 +1,14 @@
 // The stages put together for one case, without any refusal: so each refusal's
 // test can be asked by itself, also where another holds too.
 
-use crate::rating::{armoured, dry_soil, loss_counts, three_cores, value, Words};
+use crate::rating::{
+    armoured, direct, dry_soil, loss_counts, three_cores, value, Words, DIRECT_CURRENT,
+};
 use crate::stages::{self, Insulation, Thermal};
 use crate::tables;
 
-/// A case with the resistances of stage 1 and the two ends of B worked out.
+/// A case with the resistances of stage 1 and the two ends of B worked out. Of direct
+/// current there is R' alone.
 pub struct Cable<'a> {
     words: &'a Words,
     pub rc: u128,
@@ -18,16 +21,15 @@ pub struct Cable<'a> {
 impl Cable<'_> {
     pub fn of(words: &Words) -> Cable<'_> {
         let conductor = tables::conductor_coefficient(words[1]);
-        let sheath = tables::metal_coefficient(words[14]);
-        let frequency = u128::from(words[2]);
-        let mut cable = Cable {
-            words,
-            rc: stages::resistance(u128::from(words[5]), conductor, value(words, 3)),
-            rs: stages::resistance(u128::from(words[15]), sheath, value(words, 16)),
-            ra: 0,
-            b_high: stages::reactance_unit_high(frequency),
-            b_low: stages::reactance_unit_low(frequency),
-        };
+        let rc = stages::resistance(u128::from(words[5]), conductor, value(words, 3));
+        let mut cable = Cable { words, rc, rs: 0, ra: 0, b_high: 0, b_low: 0 };
+        if !direct(words) {
+            let frequency = u128::from(words[2]);
+            let sheath = tables::metal_coefficient(words[14]);
+            cable.rs = stages::resistance(u128::from(words[15]), sheath, value(words, 16));
+            cable.b_high = stages::reactance_unit_high(frequency);
+            cable.b_low = stages::reactance_unit_low(frequency);
+        }
         if armoured(words) {
             let armour = tables::metal_coefficient(words[17]);
             cable.ra = stages::resistance(u128::from(words[18]), armour, value(words, 19));
@@ -75,15 +77,21 @@ impl Cable<'_> {
         stages::skin_argument(reactance, self.rc)
     }
 
-    /// z with ks and z with kp.
+    /// z with ks and z with kp, which are 0 where there is no skin effect.
     pub fn skin_arguments(&self) -> [u128; 2] {
+        if direct(self.words) {
+            return [0; 2];
+        }
         let code = self.words[1];
         [tables::skin_coefficient(code), tables::proximity_coefficient(code)]
             .map(|k| self.skin_argument(k))
     }
 
-    /// ys, yp and R, from z with ks and z with kp.
+    /// ys, yp and R, from z with ks and z with kp. R of direct current is R'.
     pub fn conductor(&self, [z_skin, z_proximity]: [u128; 2]) -> (u128, u128, u128) {
+        if direct(self.words) {
+            return (0, 0, self.rc);
+        }
         let ys = stages::skin_factor_of(z_skin);
         let factor = stages::skin_factor_of(z_proximity);
         let u = stages::diameter_ratio_squared(self.field(6), self.field(7));
@@ -107,6 +115,7 @@ impl Cable<'_> {
                 (x, stages::three_halves(s))
             }
             6 => (0, self.common_sheath_loss()),
+            DIRECT_CURRENT => (0, 0),
             _ => self.circulating_loss(),
         }
     }

@@ -4,16 +4,16 @@
 
 use crate::book::{put_word, word_at, Layout, LAYOUTS, RBK1, RBK2, TRAILER_LENGTH};
 use crate::dice::Dice;
-use crate::drawn_cases::mixed_case;
+use crate::drawn_cases::{mixed_case, rated_case_of, Surroundings};
 use crate::listing::LONGEST_BOOK;
-use crate::rating::Words;
-use crate::sound_books::{sound_book_of, trailer};
+use crate::rating::{Words, DIRECT_CURRENT};
+use crate::sound_books::{kept, sound_book_of, trailer};
 
 /// Makes a book of one kind; the last argument is how many of its kind were made
 /// before, for kinds that go through a range one by one.
 type Kind = fn(&mut Dice, Layout, usize) -> Vec<u8>;
 
-pub const KINDS: [Kind; 23] = [
+pub const KINDS: [Kind; 24] = [
     sound,
     sound,
     empty,
@@ -28,6 +28,7 @@ pub const KINDS: [Kind; 23] = [
     trailer_byte_changed,
     field_changed,
     several_disagree,
+    direct_current_by_other_rule,
     other_mark,
     other_trailer,
     too_long,
@@ -207,6 +208,23 @@ fn several_disagree(dice: &mut Dice, layout: Layout, turn: usize) -> Vec<u8> {
         let field = layout.inputs + dice.roll() as usize % 2;
         change_word(dice, &mut book, note.len() + layout.record_length() * index + 4 * field);
     }
+    book
+}
+
+/// One record is of a rated cable of direct current, with the answer and the rating of
+/// the other mark's rule: rated in RBK1, where refusal 1 is its answer, and refused by 1
+/// in RBK2.
+fn direct_current_by_other_rule(dice: &mut Dice, layout: Layout, _turn: usize) -> Vec<u8> {
+    let note = note(dice, 200);
+    let count = number_between(dice, 1, 40);
+    let mut cases: Vec<Words> = (0..count).map(|_| mixed_case(dice)).collect();
+    let index = number_between(dice, 0, count - 1);
+    (cases[index], _) = rated_case_of(Some(DIRECT_CURRENT.into()), Surroundings::Any, dice);
+    let mut book = sound_book_of(layout, &note, &cases);
+    let rated = other(layout).rate(&kept(layout, &cases[index]));
+    let answer = note.len() + layout.record_length() * index + 4 * layout.inputs;
+    put_word(&mut book, answer, rated.answer);
+    put_word(&mut book, answer + 4, rated.rating);
     book
 }
 

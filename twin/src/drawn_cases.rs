@@ -1,9 +1,12 @@
 // Cases made by dice: sound ones, sound ones with some words replaced, a
 // mixture of rated and refused ones for the records of a book, rated ones, and
-// ones at the edge of a limit or of a refusal.
+// ones at the edge of a limit or of a refusal, of any arrangement or of direct current.
 
 use crate::dice::Dice;
-use crate::rating::{dry_soil, holds, in_the_sun, limits, rate, value, Rated, Words, WIDTH};
+use crate::rating::{
+    dry_soil, has_field, holds, in_the_sun, limits, rate, value, Rated, Words, DIRECT_CURRENT,
+    DIRECT_VOLTAGE_LIMIT, WIDTH,
+};
 use crate::sample_cables::with;
 use crate::stages::{temperature_factor, LARGEST_RS_OF_SUM};
 use crate::tables::metal_coefficient;
@@ -54,11 +57,21 @@ fn put_common_sheath(case: &mut Values, dice: &mut Dice) {
     case[20] = dice.between(100, d / 2);
 }
 
-/// What only the three-core arrangements have, or have otherwise.
-fn put_three_cores(case: &mut Values, dice: &mut Dice) {
+/// Takes away what only alternating current has, and puts a voltage past refusal 33.
+fn put_direct_current(case: &mut Values, dice: &mut Dice) {
+    let words = case.map(|value| value as u32);
+    for field in (0..WIDTH).filter(|&field| !has_field(&words, field)) {
+        case[field] = 0;
+    }
+    case[10] = dice.between(0, DIRECT_VOLTAGE_LIMIT.into());
+}
+
+/// What an arrangement has otherwise than single-core cables with alternating current.
+fn put_own(case: &mut Values, dice: &mut Dice) {
     match case[0] {
         5 => put_armour(case, dice),
         6 => put_common_sheath(case, dice),
+        7 => put_direct_current(case, dice),
         _ => {}
     }
 }
@@ -106,7 +119,7 @@ fn put_sun(case: &mut Values, dice: &mut Dice) {
     case[29] = heat;
 }
 
-/// A case of an arrangement, within every limit and past refusals 1 to 7, 31 and 32.
+/// A case of an arrangement, within every limit and past refusals 1 to 7 and 31 to 33.
 fn sound_case_of(arrangement: i64, dice: &mut Dice) -> Words {
     let theta_c = dice.between(4000, 25000);
     let ambient = dice.between(-4000, (theta_c - 500).min(6000));
@@ -124,13 +137,14 @@ fn sound_case_of(arrangement: i64, dice: &mut Dice) -> Words {
     case[26] = loss_voltage(case[10], dice);
     case[27..29].copy_from_slice(&soil(ambient, theta_c, dice));
     put_sun(&mut case, dice);
-    put_three_cores(&mut case, dice);
+    put_own(&mut case, dice);
     case.map(|value| value as u32)
 }
 
-/// A case within every limit and past refusals 1 to 7, 31 and 32, of any arrangement.
+/// A case within every limit and past refusals 1 to 7 and 31 to 33, of any arrangement.
 pub fn sound_case(dice: &mut Dice) -> Words {
-    let arrangement = dice.between(1, 6);
+    let (first, last) = limits(0);
+    let arrangement = first + dice.roll() as i64 % (last - first + 1);
     sound_case_of(arrangement, dice)
 }
 
@@ -165,10 +179,64 @@ fn near_isotherm(dice: &mut Dice) -> Words {
     case
 }
 
+/// One below a number, the number, or one above.
+fn beside(number: i64, dice: &mut Dice) -> i64 {
+    number - 1 + dice.roll() as i64 % 3
+}
+
+/// A voltage of direct current about the last that passes refusal 33, or above it.
+fn direct_voltage(dice: &mut Dice) -> i64 {
+    let last = i64::from(DIRECT_VOLTAGE_LIMIT);
+    match dice.roll() % 4 {
+        0 => dice.between(last + 1, limits(10).1),
+        _ => beside(last, dice),
+    }
+}
+
+/// Gives a cable of direct current a field that it does not have: the least word, or one
+/// that the field may have in another arrangement.
+fn put_stray(case: &mut Words, dice: &mut Dice) {
+    let strays: Vec<usize> = (0..WIDTH).filter(|&field| !has_field(case, field)).collect();
+    let field = strays[dice.roll() as usize % strays.len()];
+    let (low, high) = limits(field);
+    case[field] = match dice.roll() % 3 {
+        0 => 1,
+        _ => dice.between(low, high) as u32,
+    };
+}
+
+/// dc at ds or beside it, and Di at the least insulation or beside it.
+fn put_thin_insulation(case: &mut Words, dice: &mut Dice) {
+    let ds = i64::from(case[8]).min(9999);
+    let least = (105 * ds + 99) / 100;
+    let dimensions = [(6, beside(ds, dice)), (8, ds), (9, beside(least, dice))];
+    *case = with(case, &dimensions.map(|(field, value)| (field, value as u32)));
+}
+
+/// A conductor that is 5 K above the ambient, or so by the least step more or less.
+fn put_least_rise(case: &mut Words, dice: &mut Dice) {
+    let ambient = dice.between(3501, limits(4).1);
+    case[4] = ambient as u32;
+    case[3] = beside(ambient + 500, dice) as u32;
+}
+
+/// A cable of direct current of which one rule that it has otherwise than those with
+/// alternating current is at its edge or broken.
+fn near_direct_current(dice: &mut Dice) -> Words {
+    let mut case = sound_case_of(DIRECT_CURRENT.into(), dice);
+    match dice.roll() % 4 {
+        0 => case[10] = direct_voltage(dice) as u32,
+        1 => put_stray(&mut case, dice),
+        2 => put_thin_insulation(&mut case, dice),
+        _ => put_least_rise(&mut case, dice),
+    }
+    case
+}
+
 /// A case that may be rated and may get any refusal.
 pub fn mixed_case(dice: &mut Dice) -> Words {
     let mut case = sound_case(dice);
-    match dice.roll() % 6 {
+    match dice.roll() % 7 {
         // Without voltage there is no dielectric loss, and most cases are rated.
         0 => case[10] = 0,
         // With the lowest thermal resistances too, some currents are refused.
@@ -178,12 +246,13 @@ pub fn mixed_case(dice: &mut Dice) -> Words {
         }
         2 => disturb(&mut case, 1, dice),
         // A field of another sound case is in its own limits but may not go
-        // with the rest: refusals 3 to 7, 31 and 32.
+        // with the rest: refusals 3 to 7 and 31 to 33.
         3 => {
             let field = dice.roll() as usize % WIDTH;
             case[field] = sound_case(dice)[field];
         }
         4 => case = near_isotherm(dice),
+        5 => case = near_direct_current(dice),
         _ => {}
     }
     case
@@ -245,7 +314,7 @@ pub fn rated_case(dice: &mut Dice) -> (Words, Rated) {
     first_rated(dice, sound_case)
 }
 
-/// A rated case of one arrangement, 1 to 6, or of any, in such surroundings, and its
+/// A rated case of one arrangement, 1 to 7, or of any, in such surroundings, and its
 /// rating.
 pub fn rated_case_of(
     arrangement: Option<i64>,
@@ -316,16 +385,17 @@ pub fn at_turn(dice: &mut Dice) -> Words {
 
 /// The case of a number, counted from 0: every kind in turn.
 pub fn drawn_case(dice: &mut Dice, number: usize) -> Words {
-    match number % 7 {
+    match number % 8 {
         0 => rated_case(dice).0,
         1 => sound_case(dice),
         2 => mixed_case(dice),
         3 => near_limit(dice),
         4 => at_turn(dice),
         5 => near_isotherm(dice),
+        6 => near_direct_current(dice),
         _ => {
             let mut case = sound_case(dice);
-            disturb(&mut case, 1 + number / 7 % WIDTH, dice);
+            disturb(&mut case, 1 + number / 8 % WIDTH, dice);
             case
         }
     }

@@ -7,6 +7,7 @@ mod codes;
 pub mod common_sheath;
 mod current;
 mod dielectric;
+pub mod direct_current;
 pub mod dry_soil;
 mod eddy;
 mod limits;
@@ -30,9 +31,9 @@ pub struct Group {
     pub edges: Vec<Edge>,
 }
 
-/// Every group, in the order of the refusals.
+/// Every group, in the order of the refusals, and of direct current once more so.
 pub fn groups() -> Vec<Group> {
-    vec![
+    let mut groups = vec![
         codes::arrangements(),
         codes::conductors(),
         limits::limits(),
@@ -60,6 +61,8 @@ pub fn groups() -> Vec<Group> {
         sun::dielectric_together(),
         sun::ends(),
         current::current(),
-        pairs::pairs(),
-    ]
+    ];
+    groups.extend(direct_current::groups());
+    groups.push(pairs::pairs());
+    groups
 }

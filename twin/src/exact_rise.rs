@@ -4,7 +4,9 @@
 
 use crate::ends::Chosen;
 use crate::fraction::Fraction;
-use crate::rating::{armoured, dry_soil, loss_counts, three_cores, value, Words};
+use crate::rating::{
+    armoured, direct, dry_soil, loss_counts, three_cores, value, Words, DIRECT_CURRENT,
+};
 use crate::stages;
 use crate::tables;
 
@@ -100,7 +102,8 @@ impl Cable<'_> {
 
     /// B = 4 pi f 10^-7 ohm/m, f being in hundredths of Hz.
     fn reactance_unit(&self) -> Fraction {
-        self.field(2).times(&Fraction::whole(40_000_000)).times(&self.chosen.pi)
+        let pi = self.chosen.pi.as_ref().expect("the current alternates");
+        self.field(2).times(&Fraction::whole(40_000_000)).times(pi)
     }
 
     // Stages 3 and 4.
@@ -123,7 +126,11 @@ impl Cable<'_> {
         u.times(&g.plus(&h.over(&factor.plus(&Fraction::new(27, 100)))))
     }
 
-    fn ac_resistance(&self) -> Fraction {
+    /// R, which is R' where the current is direct.
+    fn conductor_resistance(&self) -> Fraction {
+        if direct(self.words) {
+            return self.dc_resistance();
+        }
         let ys = self.skin_factor(tables::skin_coefficient(self.words[1]));
         let sum = Fraction::whole(1).plus(&ys).plus(&self.proximity_factor());
         self.dc_resistance().times(&sum)
@@ -182,6 +189,7 @@ impl Cable<'_> {
             4 => self.eddy_loss(2),
             5 => self.circulating_loss().times(&Fraction::new(3, 2)),
             6 => self.common_sheath_loss(),
+            DIRECT_CURRENT => Fraction::whole(0),
             _ => self.circulating_loss(),
         }
     }
@@ -211,7 +219,8 @@ impl Cable<'_> {
             return Fraction::whole(0);
         }
         let leading = self.field(11).times(&self.field(10).squared()).times(&self.field(12));
-        let below = Fraction::whole(360 * stages::T).times(&self.chosen.insulation_log);
+        let log = self.chosen.insulation_log.as_ref().expect("the current alternates");
+        let below = Fraction::whole(360 * stages::T).times(log);
         leading.times(&self.reactance_unit()).over(&below)
     }
 
@@ -237,7 +246,7 @@ impl Cable<'_> {
 
     /// E = (R T1 + n (R + S) T2 + n (R + S + W)(T3 + v T4))/10^6.
     fn effective_resistance(&self) -> Fraction {
-        let r = self.ac_resistance();
+        let r = self.conductor_resistance();
         let with_sheath = r.plus(&self.sheath_loss());
         let with_armour = with_sheath.plus(&self.armour_loss());
         let bedding = with_sheath.times(&self.field(23));

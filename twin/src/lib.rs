@@ -1,5 +1,5 @@
 // The twin: a second, independent working of the cable rating and the book of
-// document 01 with document 02's requests A1, A2, A4, A5 and A6, written from the
+// document 01 with document 02's requests A1, A2 and A4 to A7, written from the
 // documents alone so that another implementation can be compared with it, number for
 // number.
 

@@ -1,6 +1,6 @@
-// A case's answer: the refusals 1 to 6, 31, 32 and 7 to 11 tried in this order, then
-// the rating in mA and the sheet. Those up to 7 are decided on the words alone; only
-// a case that passes them reaches a stage, so the stages see fields in limits.
+// A case's answer: the refusals 1 to 6, 31, 32, 7, 33 and 8 to 11 tried in this order,
+// then the rating in mA and the sheet. Those up to 33 are decided on the words alone;
+// only a case that passes them reaches a stage, so the stages see fields in limits.
 
 use crate::cable::Cable;
 use crate::stages;
@@ -12,6 +12,13 @@ pub struct Rated {
     pub answer: u32,
     pub rating: u32,
     pub sheet: [u64; 13],
+}
+
+impl Rated {
+    /// What a case gets that a refusal refuses.
+    pub fn refused(answer: u32) -> Rated {
+        Rated { answer, rating: 0, sheet: [0; 13] }
+    }
 }
 
 /// The number of fields of a case, and that of one as it was before the last
@@ -27,7 +34,12 @@ pub fn from_older(older: &[u32; OLDER_WIDTH]) -> Words {
     std::array::from_fn(|field| older.get(field).copied().unwrap_or(0))
 }
 
-/// The largest z that passes refusal 8, and the largest rating that passes 11.
+/// The last arrangement, whose current is direct. In all others it alternates.
+pub const DIRECT_CURRENT: u32 = 7;
+
+/// The largest U0 that passes refusal 33, the largest z that passes 8, and the largest
+/// rating that passes 11.
+pub const DIRECT_VOLTAGE_LIMIT: u32 = 5000;
 pub const SKIN_LIMIT: u128 = 7_840_000_000_000;
 pub const CURRENT_LIMIT: u128 = 5_000_000;
 
@@ -67,7 +79,7 @@ const LIMITS: [(i64, i64); 28] = [
 /// The limits of any field: those of refusals 1 and 2, and of 3.
 pub fn limits(field: usize) -> (i64, i64) {
     match field {
-        0 => (1, 6),
+        0 => (1, DIRECT_CURRENT.into()),
         1 => (1, 8),
         _ => LIMITS[field - 2],
     }
@@ -81,6 +93,12 @@ pub fn value(case: &Words, field: usize) -> i64 {
     }
 }
 
+/// Whether the case's current is direct, so that it has no skin, proximity, sheath,
+/// armour or dielectric term.
+pub fn direct(case: &Words) -> bool {
+    case[0] == DIRECT_CURRENT
+}
+
 /// Only the SL cable has armour.
 pub fn armoured(case: &Words) -> bool {
     case[0] == 5
@@ -92,14 +110,15 @@ pub fn three_cores(case: &Words) -> bool {
 }
 
 /// Whether currents circulate in the sheaths, by X and the logarithm of 2s/d. The
-/// other arrangements have eddies only, and no use for either.
+/// others with alternating current have eddies only, and no use for either.
 pub fn circulating(case: &Words) -> bool {
     matches!(case[0], 1 | 2 | 5)
 }
 
-/// Whether the dielectric loss counts: from the voltage in field 26 on.
+/// Whether the dielectric loss counts: with alternating current, from the voltage in
+/// field 26 on.
 pub fn loss_counts(case: &Words) -> bool {
-    case[10] >= case[26]
+    !direct(case) && case[10] >= case[26]
 }
 
 /// Whether soil dries out around the cable: field 27 is v then, and 0 else.
@@ -112,21 +131,23 @@ pub fn in_the_sun(case: &Words) -> bool {
     case[29] != 0
 }
 
-/// Whether the case's arrangement has a field: the armour's are the SL cable's,
+/// Whether the case's arrangement has a field: frequency, spacing, permittivity, loss
+/// factor and the sheath's are alternating current's, the armour's are the SL cable's,
 /// and c both three-core cables'.
-fn has_field(case: &Words, field: usize) -> bool {
+pub fn has_field(case: &Words, field: usize) -> bool {
     match field {
+        2 | 7 | 11..=16 => !direct(case),
         17..=19 | 21 => armoured(case),
         20 => three_cores(case),
         _ => true,
     }
 }
 
-// Refusals 1 to 7, 31 and 32. Each looks at 32-bit values held in i64 and multiplies
+// Refusals 1 to 7 and 31 to 33. Each looks at 32-bit values held in i64 and multiplies
 // by 105 at most, so none can overflow whatever the words are.
 
 fn arrangement_wrong(case: &Words) -> bool {
-    !(1..=6).contains(&case[0])
+    !(1..=DIRECT_CURRENT).contains(&case[0])
 }
 
 fn conductor_wrong(case: &Words) -> bool {
@@ -155,21 +176,22 @@ fn field_stray(case: &Words) -> bool {
 fn geometry_wrong(case: &Words) -> bool {
     let (dc, s, ds, di) = (value(case, 6), value(case, 7), value(case, 8), value(case, 9));
     let (d, c, d_armour) = (value(case, 13), value(case, 20), value(case, 21));
-    let core_wrong = dc > ds || 100 * di < 105 * ds || di > d;
-    let place_wrong = match case[0] {
-        5 => d > s || 2 * c > d_armour,
+    let core_wrong = dc > ds || 100 * di < 105 * ds;
+    let outside_wrong = match case[0] {
+        5 => di > d || d > s || 2 * c > d_armour,
         // One sheath goes round all three cores, so s may be smaller than d.
-        6 => dc > s || 2 * c > d,
-        _ => d > s,
+        6 => di > d || dc > s || 2 * c > d,
+        // Neither d nor s is given.
+        DIRECT_CURRENT => false,
+        _ => di > d || d > s,
     };
-    core_wrong || place_wrong
+    core_wrong || outside_wrong
 }
 
 fn heat_wrong(case: &Words) -> bool {
     let conductor = value(case, 3);
-    conductor - value(case, 4) < 500
-        || value(case, 16) > conductor
-        || (armoured(case) && value(case, 19) > conductor)
+    let hotter = |field| has_field(case, field) && value(case, field) > conductor;
+    conductor - value(case, 4) < 500 || hotter(16) || hotter(19)
 }
 
 /// The soil dries out where it is hotter than the critical isotherm, which must lie
@@ -188,11 +210,16 @@ fn metal_wrong(case: &Words) -> bool {
     (needs_lead && case[14] != tables::LEAD) || (armoured(case) && case[17] != tables::STEEL)
 }
 
+/// The standard has its formula of direct current for cables up to 5 kV.
+fn direct_voltage_wrong(case: &Words) -> bool {
+    direct(case) && case[10] > DIRECT_VOLTAGE_LIMIT
+}
+
 type EarlyTest = fn(&Words) -> bool;
 type LateTest = fn(&Cable) -> bool;
 
 /// Refusals with their tests, in the order in which they are tried.
-const EARLY_REFUSALS: [(u32, EarlyTest); 9] = [
+const EARLY_REFUSALS: [(u32, EarlyTest); 10] = [
     (1, arrangement_wrong),
     (2, conductor_wrong),
     (3, limit_passed),
@@ -202,6 +229,7 @@ const EARLY_REFUSALS: [(u32, EarlyTest); 9] = [
     (31, isotherm_wrong),
     (32, sun_wrong),
     (7, metal_wrong),
+    (33, direct_voltage_wrong),
 ];
 
 /// The first of them that holds.
@@ -254,7 +282,7 @@ fn current_holds(cable: &Cable) -> bool {
 const LATE_REFUSALS: [(u32, LateTest); 4] =
     [(8, skin_holds), (9, eddy_holds), (10, dielectric_holds), (11, current_holds)];
 
-/// Whether the test of a refusal, 1 to 11, 31 or 32, holds of a case, whatever the
+/// Whether the test of a refusal, 1 to 11 or 31 to 33, holds of a case, whatever the
 /// others say. For 8 to 11 its codes must be in the tables, Di not below ds and v
 /// not below that of moist soil, and the fields near enough to their limits that no
 /// product overflows.
@@ -304,6 +332,6 @@ pub fn rate(case: &Words) -> Rated {
     };
     match result {
         Ok((rating, sheet)) => Rated { answer: 0, rating, sheet },
-        Err(answer) => Rated { answer, rating: 0, sheet: [0; 13] },
+        Err(answer) => Rated::refused(answer),
     }
 }

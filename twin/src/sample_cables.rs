@@ -1,5 +1,5 @@
 // Real-looking cables, which the edge cases and the tests alter: one of each
-// arrangement, of the last one for each of its formulas, and one for each of the
+// arrangement, of the sixth for each of its formulas, and one for each of the
 // fields that came later.
 
 use crate::rating::Words;
@@ -55,8 +55,23 @@ pub const LOW_VOLTAGE: Words = [
     6200, 0, 0, 0, 849, 0, 450_000, 0, 83_000, 674_000, 6000, 0, 0, 0,
 ];
 
-/// All in moist soil whose loss counts at every voltage, by rising arrangement:
-/// the first four are single-core, and the last two have a common sheath.
+/// A traction feeder of 1.5 kV: one of three cables of 500 mm2 copper of 1.8/3 kV with
+/// direct current in each.
+pub const FEEDER: Words = [
+    7, 2, 0, 9000, 2000, 36600, 2630, 0, 2630, 3070, 1500, 0, 0, 0, 0, 0, 0, 0, 0, 0, 0, 0, 86171,
+    0, 119_012, 1_791_461, 0, 0, 0, 0,
+];
+
+/// The same three cables as a circuit of 1.8/3 kV with alternating current, whose
+/// screens are bonded at both ends.
+pub const FEEDER_ALTERNATING: Words = [
+    1, 2, 5000, 9000, 2000, 36600, 2630, 4000, 2630, 3070, 1800, 250, 400, 3420, 3, 524_000, 8720,
+    0, 0, 0, 0, 0, 86171, 0, 119_012, 1_791_461, 127_000, 0, 0, 0,
+];
+
+/// All with alternating current in moist soil whose loss counts at every voltage, by
+/// rising arrangement: the first four are single-core, and the last two have a common
+/// sheath.
 pub const ALL: [Words; 7] = [
     TREFOIL,
     FLAT,

@@ -2,7 +2,7 @@
 // append make. A test sees that these are the same.
 
 use crate::book::{append, start, Layout, RECORD_LENGTH, TRAILER_LENGTH};
-use crate::rating::{rate, Words, WIDTH};
+use crate::rating::Words;
 
 /// Words one after the other, as a book has them.
 pub fn big_endian(words: &[u32]) -> Vec<u8> {
@@ -16,12 +16,18 @@ pub fn trailer(layout: Layout, count: usize) -> Vec<u8> {
     [&layout.mark[..], &big_endian(&numbers)].concat()
 }
 
-/// The record of a case: the inputs that the layout has room for, and what the
-/// case gets whose other inputs are zero.
+/// The case that a record of a layout keeps of another: the inputs that it has room for,
+/// the others being zero.
+pub fn kept(layout: Layout, case: &Words) -> Words {
+    let mut kept = *case;
+    kept[layout.inputs..].fill(0);
+    kept
+}
+
+/// The record of a case: the inputs that are kept of it, and what these get there.
 fn record(layout: Layout, case: &Words) -> Vec<u8> {
-    let mut kept = [0; WIDTH];
-    kept[..layout.inputs].copy_from_slice(&case[..layout.inputs]);
-    let rated = rate(&kept);
+    let kept = kept(layout, case);
+    let rated = layout.rate(&kept);
     [big_endian(&kept[..layout.inputs]), big_endian(&[rated.answer, rated.rating])].concat()
 }
 

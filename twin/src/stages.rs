@@ -1,7 +1,8 @@
 // Stages 1 to 10 of document 01, with the common sheath's, the dry soil's and the
-// sun's of document 02, one function for each quantity they name. Ohms are in 10^-16
-// ohm/m, pure numbers in parts of T = 10^12, temperatures in hundredths of a
-// degree. With the fields' limits every product fits u128.
+// sun's of document 02, one function for each quantity they name; direct current has
+// none of its own. Ohms are in 10^-16 ohm/m, pure numbers in parts of T = 10^12,
+// temperatures in hundredths of a degree. With the fields' limits every product fits
+// u128.
 
 use crate::whole::{down, square_root, up};
 

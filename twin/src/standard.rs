@@ -205,9 +205,26 @@ impl Cable {
         self.theta_c - self.theta_a + (self.v - 1.0) * (self.theta_x - self.theta_a)
     }
 
-    /// The rating in amperes: in dry soil by 1.4.2.1, in the sun, where T4 is T4* and the
-    /// heat taken up σ De* H, by 1.4.4. With v = 1 and no heat both are 1.4.1.1.
+    /// The rating in amperes by the formula for the kind of current.
     pub fn rating(&self) -> f64 {
+        if self.arrangement == 7 {
+            self.dc_rating()
+        } else {
+            self.ac_rating()
+        }
+    }
+
+    /// d.c. up to 5 kV, of single-core cables: in dry soil by 1.4.2.2, in the sun by
+    /// 1.4.4.2. With v = 1 and no heat both are 1.4.1.2.
+    fn dc_rating(&self) -> f64 {
+        let [t1, t2, t3, t4] = self.thermal;
+        let left = self.permitted_rise() - self.solar_heat * t4;
+        (left / (self.dc_resistance() * (t1 + t2 + t3 + self.v * t4))).sqrt()
+    }
+
+    /// a.c.: in dry soil by 1.4.2.1, in the sun, where T4 is T4* and the heat taken up
+    /// σ De* H, by 1.4.4.1. With v = 1 and no heat both are 1.4.1.1.
+    fn ac_rating(&self) -> f64 {
         let three_cores = matches!(self.arrangement, 5 | 6);
         let n = if three_cores { 3.0 } else { 1.0 };
         let [t1, t2, t3, t4] = self.thermal;

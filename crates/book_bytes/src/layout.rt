@@ -1,9 +1,11 @@
 // The layouts of books (`rbk1` and `rbk2` in `book_laws`) as the code has them: the mark, how many
 // inputs and bytes a record has, and where a number of a trailer stands.
-ghost use Rattle.std.specs.Prelude.{◌≡◌, ◌+◌};
+ghost use Rattle.std.specs.Prelude.{cond, List, ◌≡◌, ℕ, ◌++◌, ◌+◌};
 ghost use Rattle.book_bytes.specs.Layout.{layout_as};
 ghost use Rattle.book_laws.specs.Book.{layout_of};
 ghost use Rattle.book_laws.specs.Layout as Spec;
+ghost use Rattle.fields.specs.Fields as Fields;
+ghost use Rattle.rating.specs.Rate.{rate_of};
 
 use fields::{OLDER_WIDTH, WIDTH};
 
@@ -48,6 +50,18 @@ impl Layout {
         match self {
             Layout::Rbk1 => OLDER_WIDTH,
             Layout::Rbk2 => WIDTH,
+        }
+    }
+
+    // Whether the rule is `rate`'s for the cases of an arrangement. It refuses the others by 1:
+    // arrangement 7 came after RBK1.
+    pub(crate) fn allows(self, arrangement: u32) -> bool
+        ensures { (x : List ℕ) → Fields.arrangement x ≡ arrangement →
+            (layout_as self).rule x ≡ cond result (rate_of (x ++ Spec.missing (layout_as self))) Spec.refused_by_1 }
+    {
+        match self {
+            Layout::Rbk1 => arrangement != 7,
+            Layout::Rbk2 => true,
         }
     }
 

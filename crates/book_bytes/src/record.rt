@@ -11,8 +11,9 @@ ghost use Rattle.rating.specs.Rate.{rate_of};
 
 use super::field::{put_word, word_at};
 use super::layout::{Layout, RECORD_LENGTH};
-use fields::{Case, OLDER_WIDTH, WIDTH};
+use fields::{ARRANGEMENT, Case, OLDER_WIDTH, WIDTH};
 use rating::rate::rate;
+use rating::refusal::Refusal;
 
 // The answer is 0 for a rated case, and otherwise the refusal's number. It is a word, since a record is
 // read as it is written, whatever stands there.
@@ -95,13 +96,16 @@ impl Record {
     }
 }
 
-// Whether the record at a place has the answer and the rating of its case. Not a derived equality: it
-// would compare the cases too, which are the same.
+// Whether the record at a place has the answer and the rating of its case, by the layout's rule. Not a
+// derived equality: it would compare the cases too, which are the same.
 pub fn agrees(layout: Layout, buffer: &[u8], at: usize) -> bool
     requires { at + record_length (layout_as layout) ≤ length buffer.now }
     ensures { result ≡ agrees (layout_as layout) buffer.now at }
 {
     let record = Record::of_bytes(layout, buffer, at);
+    if !layout.allows(record.case[ARRANGEMENT]) {
+        return record.answer == u32::from(Refusal::Arrangement) && record.rating == 0;
+    }
     let rated = Record::of_case(record.case);
     record.answer == rated.answer && record.rating == rated.rating
 }

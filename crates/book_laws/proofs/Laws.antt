@@ -17,6 +17,7 @@ pub mod Cases
 pub mod Rebuild
 pub mod Appended
 pub mod Margin
+pub mod Answered
 pub mod Demands
 pub mod Judged
 pub mod Literal
@@ -24,4 +25,5 @@ pub mod Instances
 pub mod CommonSheath
 pub mod Older
 pub mod FurtherInputs
+pub mod DirectCurrent
 pub mod Named

@@ -1,6 +1,6 @@
 -- What a mark stands for (docs/BOOK.md, 'The bytes'): the widths, the lengths and the rule of the books that bear it. Each book is of one
 -- layout; everything else about books is said of any layout. Assumes nothing.
-use Rattle.std.specs.Prelude.{List, [], ◌∷◌, ℕ, ◌+◌, ◌-◌, ◌*◌, replicate}
+use Rattle.std.specs.Prelude.{cond, List, [], ◌∷◌, ℕ, ◌+◌, ◌-◌, ◌*◌, eqb, replicate}
 use Rattle.fields.specs.Fields as Fields
 use Rattle.rating.specs.Rate.{Answer, rate_of}
 
@@ -33,8 +33,16 @@ missing l = replicate (Fields.width - l.inputs) 0
 abbrev pub trailer_length : Layout → ℕ
 trailer_length l = 4 + 2 * l.width + 4
 
--- ASCII "RBK1", of books that are no longer written. Where fields 26 to 29 are zero, the dielectric loss counts at every voltage, no soil
--- dries out and no sun heats the cable.
+-- what refusal 1 answers to a case
+abbrev pub refused_by_1 : Answer
+refused_by_1 = record { number = 1; rating = 0; sheet = replicate 13 0 }
+
+-- The rule of RBK1. Where fields 26 to 29 are zero, the dielectric loss counts at every voltage, no soil dries out and no sun heats the
+-- cable. Arrangement 7 came after that mark: refusal 1 still refuses it there.
+abbrev pub older_rule : List ℕ → Answer
+older_rule x = cond (eqb (Fields.arrangement x) 7) refused_by_1 (rate_of (Fields.from_older x))
+
+-- ASCII "RBK1", of books that are no longer written.
 abbrev pub rbk1 : Layout
 rbk1 =
     record {
@@ -42,7 +50,7 @@ rbk1 =
       width = 4;
       inputs = Fields.older_width;
       most = 100000;
-      rule = λ x. rate_of (Fields.from_older x);
+      rule = older_rule;
     }
 
 -- "RBK2"

@@ -5,6 +5,7 @@ pub mod Values
 pub mod Temperature
 pub mod Octaves
 pub mod Current
+pub mod Losses
 pub mod Ranges
 pub mod Soil
 pub mod Between

@@ -9,9 +9,11 @@ pub mod BothEnds
 pub mod OnePoint
 pub mod SlType
 pub mod CommonSheath
+pub mod DirectCurrent
 pub mod Arrangements
-pub mod DielectricRise
+pub mod Current
 pub mod LossVoltage
+pub mod Direct
 pub mod Moist
 pub mod DrySoil
 pub mod Sun
@@ -22,9 +24,12 @@ pub mod Bounds
 pub mod First
 pub mod Refused
 pub mod Passed
+pub mod FiveNumbers
+pub mod FiveNumbersInstances
 pub mod Margin
 pub mod Answers
 pub mod Edges
 pub mod DrySoilEdges
 pub mod SunEdges
+pub mod DirectEdges
 pub mod Instances

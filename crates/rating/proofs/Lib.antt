@@ -1,3 +1,4 @@
+pub mod Judged
 pub mod Own
 pub mod Refused
 pub mod SheathReactance

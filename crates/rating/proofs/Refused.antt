@@ -18,6 +18,7 @@ numbered Code.TheVariants.Heat = refl
 numbered Code.TheVariants.Isotherm = refl
 numbered Code.TheVariants.Sun = refl
 numbered Code.TheVariants.Metal = refl
+numbered Code.TheVariants.DirectVoltage = refl
 numbered Code.TheVariants.Skin = refl
 numbered Code.TheVariants.Eddy = refl
 numbered Code.TheVariants.Dielectric = refl

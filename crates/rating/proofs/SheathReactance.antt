@@ -6,20 +6,22 @@ use Rattle.formulas.specs.Spacing.{spacing_log_high, spacing_log_low, sheath_rea
 use Rattle.formulas.proofs.Laws.Ranges.{reactance_low_most}
 use Rattle.fields.specs.Fields as Field
 use Rattle.rating.specs.Values.{B, X, XLow}
-use Rattle.rating.specs.Laws.Sound.{Sound}
+use Rattle.rating.specs.Laws.Sound.{Alternating}
 use Rattle.rating.specs.Laws.Steps.{SheathReactanceTakes}
 use Rattle.rating.proofs.Laws.Ranges.{B_range, spacing_log_high_most, spacing_log_low_most}
 
-module _ {x : List ℕ} (fine : Sound x) (apart : Field.sheath_diameter x ≤ Field.spacing x) where
+module _ {x : List ℕ} (ac : Alternating x) (apart : Field.sheath_diameter x ≤ Field.spacing x) where
   pub high_takes : {b : ℕ} → b ≡ B x → SheathReactanceTakes spacing_log_high x b
-  high_takes b_is = record { apart = apart; log_most = spacing_log_high_most fine apart; b_most = omega (arith, B_range fine) }
+  high_takes b_is =
+      record { alternating = ac; apart = apart; log_most = spacing_log_high_most ac apart; b_most = omega (arith, B_range ac) }
 
   pub low_takes : {b : ℕ} → b ≡ reactance_low (Field.frequency x) → SheathReactanceTakes spacing_log_low x b
   low_takes b_is =
       record {
+        alternating = ac;
         apart = apart;
-        log_most = spacing_log_low_most fine apart;
-        b_most = omega (arith, reactance_low_most fine.frequency.most);
+        log_most = spacing_log_low_most ac apart;
+        b_most = omega (arith, reactance_low_most ac.frequency.most);
       }
 
 module _ (x : List ℕ) where

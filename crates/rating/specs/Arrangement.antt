@@ -1,34 +1,19 @@
--- What an arrangement adds to a case (docs/RATING.md, 'The fields of a case' and stages 7 to 9): its own part of the refusals, what the
--- sheet shows of it, and the numbers that stage 10 takes, rounded and exact. A new arrangement is one more value of this type. Assumes
--- nothing.
+-- What an arrangement adds to a case (docs/RATING.md, 'The fields of a case' and stages 7 and 8): whether its current alternates, its own
+-- part of the refusals, what the sheet shows of it alone, and n, S and W, rounded and exact. A new arrangement is one more value of this
+-- type. Assumes nothing.
 use Rattle.std.specs.Prelude.{Bool, ◌&&◌, List, ℕ, eqb}
 use Rattle.exact.specs.Fraction.{Fraction}
-use Rattle.formulas.specs.Dielectric.{dielectric_rise, dielectric_rise*}
 use Rattle.fields.specs.Fields as Field
 use Rattle.rating.specs.Within.{within}
-use Rattle.rating.specs.Values.{R, Wd, soil_T4}
-use Rattle.rating.specs.Chosen.{Chosen, R*, Wd*}
-
--- what stages 9 and 10 take of a case beside T1 to T4, the permitted rise and the sun's
-pub record Numbers : Type 0 where
-  pub n : ℕ
-  pub R : ℕ
-  pub S : ℕ
-  pub W : ℕ
-  pub dd : ℕ
-
--- the same with no rounding; n is a whole number
-pub record Numbers* : Type 0 where
-  pub R : Fraction
-  pub S : Fraction
-  pub W : Fraction
-  pub dd : Fraction
+use Rattle.rating.specs.Chosen.{Chosen}
 
 pub record Arrangement : Type 0 where
   -- refusal 1: whether it is one
   pub known : Bool
-  -- tests that a case passes beyond those of every arrangement: of refusal 3, the limits of the fields that only some have; of 4, that
-  -- the fields which it does not have are zero; of 5, 6 and 7
+  -- whether its current alternates; where it does not, it is direct
+  pub alternates : Bool
+  -- tests that a case passes beyond those of every arrangement with its current: of refusal 3, the limits of the fields that only some
+  -- have; of 4, that the fields which it does not have are zero; of 5, 6 and 7
   pub limits : List ℕ → Bool
   pub unused : List ℕ → Bool
   pub geometry : List ℕ → Bool
@@ -41,8 +26,12 @@ pub record Arrangement : Type 0 where
   -- RA and X as the sheet shows them
   pub RA : List ℕ → ℕ
   pub X : List ℕ → ℕ
-  pub numbers : List ℕ → Numbers
-  pub numbers* : List ℕ → Chosen → Numbers*
+  -- the number of cores, and the losses in sheath and armour; a star has no rounding
+  pub n : ℕ
+  pub S : List ℕ → ℕ
+  pub W : List ℕ → ℕ
+  pub S* : List ℕ → Chosen → Fraction
+  pub W* : List ℕ → Chosen → Fraction
 
 -- the limits of c, field 20, in a cable of three cores
 unfoldable pub axis_limits : List ℕ → Bool
@@ -55,14 +44,3 @@ no_armour x = eqb (Field.word x 17) 0 && eqb (Field.word x 18) 0 && eqb (Field.w
 -- fields 17 to 21 are all zero
 unfoldable pub armourless : List ℕ → Bool
 armourless x = no_armour x && eqb (Field.word x 20) 0
-
--- The numbers of a cable that carries alternating current, from its n, S and W: R is the a.c. resistance, and dd comes from the
--- dielectric loss.
-
-unfoldable pub alternating : (n s w : ℕ) → List ℕ → Numbers
-alternating n s w x =
-    record { n = n; R = R x; S = s; W = w; dd = dielectric_rise n (Wd x) (Field.t1 x) (Field.t2 x) (Field.t3 x) (soil_T4 x) }
-
-unfoldable pub alternating* : (n : ℕ) (s w : Fraction) → List ℕ → Chosen → Numbers*
-alternating* n s w x c =
-    record { R = R* x c; S = s; W = w; dd = dielectric_rise* n (Wd* x c) (Field.t1 x) (Field.t2 x) (Field.t3 x) (soil_T4 x) }

@@ -8,12 +8,14 @@ use Rattle.rating.specs.BothEnds.{both_ends}
 use Rattle.rating.specs.OnePoint.{one_point}
 use Rattle.rating.specs.SlType.{sl_type}
 use Rattle.rating.specs.CommonSheath.{common_sheath}
+use Rattle.rating.specs.DirectCurrent.{direct_current}
 
 -- any other number, which refusal 1 refuses: no case passes its tests, and it has no numbers
 unfoldable pub no_arrangement : Arrangement
 no_arrangement =
     record {
       known = false;
+      alternates = false;
       limits = λ x. false;
       unused = λ x. false;
       geometry = λ x. false;
@@ -23,8 +25,11 @@ no_arrangement =
       reactive = false;
       RA = λ x. 0;
       X = λ x. 0;
-      numbers = λ x. record { n = 0; R = 0; S = 0; W = 0; dd = 0 };
-      numbers* = λ x c. record { R = whole 0; S = whole 0; W = whole 0; dd = whole 0 };
+      n = 0;
+      S = λ x. 0;
+      W = λ x. 0;
+      S* = λ x c. whole 0;
+      W* = λ x c. whole 0;
     }
 
 unfoldable pub arrangement_of : ℕ → Arrangement
@@ -34,7 +39,8 @@ arrangement_of k =
     (cond (eqb k 3) (one_point 1)
     (cond (eqb k 4) (one_point 2)
     (cond (eqb k 5) sl_type
-    (cond (eqb k 6) common_sheath no_arrangement)))))
+    (cond (eqb k 6) common_sheath
+    (cond (eqb k 7) direct_current no_arrangement))))))
 
 -- that of a case
 abbrev pub own : List ℕ → Arrangement

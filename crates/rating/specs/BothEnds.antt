@@ -6,12 +6,13 @@ use Rattle.formulas.specs.Sheath.{circulating_loss, circulating_loss*}
 use Rattle.fields.specs.Fields as Field
 use Rattle.rating.specs.Values.{Rs, X}
 use Rattle.rating.specs.Chosen.{X*}
-use Rattle.rating.specs.Arrangement.{Arrangement, armourless, alternating, alternating*}
+use Rattle.rating.specs.Arrangement.{Arrangement, armourless}
 
 unfoldable pub both_ends : Arrangement
 both_ends =
     record {
       known = true;
+      alternates = true;
       limits = λ x. true;
       unused = armourless;
       geometry = λ x. leb (Field.sheath_diameter x) (Field.spacing x);
@@ -21,6 +22,9 @@ both_ends =
       reactive = true;
       RA = λ x. 0;
       X = X;
-      numbers = λ x. alternating 1 (circulating_loss (X x) (Rs x)) 0 x;
-      numbers* = λ x c. alternating* 1 (circulating_loss* (X* x c) (Rs x)) (whole 0) x c;
+      n = 1;
+      S = λ x. circulating_loss (X x) (Rs x);
+      W = λ x. 0;
+      S* = λ x c. circulating_loss* (X* x c) (Rs x);
+      W* = λ x c. whole 0;
     }

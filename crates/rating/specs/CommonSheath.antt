@@ -6,12 +6,13 @@ use Rattle.formulas.specs.CommonSheath.{common_loss, common_loss*}
 use Rattle.fields.specs.Fields as Field
 use Rattle.rating.specs.Values.{Rs, B}
 use Rattle.rating.specs.Chosen.{B*}
-use Rattle.rating.specs.Arrangement.{Arrangement, axis_limits, no_armour, alternating, alternating*}
+use Rattle.rating.specs.Arrangement.{Arrangement, axis_limits, no_armour}
 
 unfoldable pub common_sheath : Arrangement
 common_sheath =
     record {
       known = true;
+      alternates = true;
       limits = axis_limits;
       unused = no_armour;
       geometry =
@@ -22,7 +23,9 @@ common_sheath =
       reactive = false;
       RA = λ x. 0;
       X = λ x. 0;
-      numbers = λ x. alternating 3 (common_loss (B x) (Rs x) (Field.axis_distance x) (Field.sheath_diameter x)) 0 x;
-      numbers* =
-          λ x c. alternating* 3 (common_loss* (B* x c) (Rs x) (Field.axis_distance x) (Field.sheath_diameter x)) (whole 0) x c;
+      n = 3;
+      S = λ x. common_loss (B x) (Rs x) (Field.axis_distance x) (Field.sheath_diameter x);
+      W = λ x. 0;
+      S* = λ x c. common_loss* (B* x c) (Rs x) (Field.axis_distance x) (Field.sheath_diameter x);
+      W* = λ x c. whole 0;
     }

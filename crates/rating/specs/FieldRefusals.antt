@@ -1,6 +1,6 @@
--- docs/RATING.md, 'The refusals': those that look at the fields alone, 1 to 7, 31 and 32, each as a test that refuses; their order; and
+-- docs/RATING.md, 'The refusals': those that look at the fields alone, 1 to 7 and 31 to 33, each as a test that refuses; their order; and
 -- the number of the first that does. Assumes nothing.
-use Rattle.std.specs.Prelude.{Bool, not, ◌&&◌, ◌||◌, List, [], ◌∷◌, ℕ, ◌*◌, eqb, leb, pos, neg_ℤ, ◌-ℤ◌}
+use Rattle.std.specs.Prelude.{Bool, not, ◌&&◌, ◌||◌, List, [], ◌∷◌, ℕ, ◌*◌, eqb, leb, ltb, pos, neg_ℤ, ◌-ℤ◌}
 use Rattle.std.specs.Int.Signed.{le_z}
 use Rattle.bools.specs.First.{Refusal, or_refused}
 use Rattle.fields.specs.Fields as Field
@@ -15,21 +15,26 @@ arrangement_refused x = not (own x).known
 unfoldable pub conductor_refused : List ℕ → Bool
 conductor_refused x = not (within 1 8 (Field.conductor x))
 
--- 3, in four groups: fields 2 to 9; 10 to 16; 22 to 25; and 26 to 29. The arrangement has the limits of fields 17 to 21.
+-- the current of the arrangement is direct
+abbrev pub direct : List ℕ → Bool
+direct x = not (own x).alternates
+
+-- 3, in four groups: fields 3 to 6 and 8 to 10; 2, 7 and 11 to 16, which only an alternating current has; 22 to 25; and 26 to 29. The
+-- arrangement has the limits of fields 17 to 21.
 unfoldable pub conductor_limits : List ℕ → Bool
 conductor_limits x =
-    within 1000 6500 (Field.frequency x)
-    && within_z (pos 4000) (pos 25000) (Field.conductor_temperature x)
+    within_z (pos 4000) (pos 25000) (Field.conductor_temperature x)
     && within_z (neg_ℤ (pos 4000)) (pos 6000) (Field.ambient_temperature x)
     && within 5000 20000000 (Field.conductor_resistance x)
     && within 100 10000 (Field.conductor_diameter x)
-    && within 100 1000000 (Field.spacing x)
     && within 100 20000 (Field.screen_diameter x)
     && within 100 30000 (Field.insulation_diameter x)
+    && within 0 300000 (Field.voltage x)
 
-unfoldable pub sheath_limits : List ℕ → Bool
-sheath_limits x =
-    within 0 300000 (Field.voltage x)
+unfoldable pub alternating_limits : List ℕ → Bool
+alternating_limits x =
+    within 1000 6500 (Field.frequency x)
+    && within 100 1000000 (Field.spacing x)
     && within 100 800 (Field.permittivity x)
     && within 1 10000 (Field.loss_factor x)
     && within 100 50000 (Field.sheath_diameter x)
@@ -57,7 +62,12 @@ further_limits x =
 
 unfoldable pub limit_refused : List ℕ → Bool
 limit_refused x =
-    not (conductor_limits x && sheath_limits x && thermal_limits x && further_limits x && (own x).limits x)
+    not
+    (conductor_limits x
+    && (direct x || alternating_limits x)
+    && thermal_limits x
+    && further_limits x
+    && (own x).limits x)
 
 -- field 28 is zero where no soil dries out
 unfoldable pub isotherm_unused : List ℕ → Bool
@@ -67,13 +77,13 @@ isotherm_unused x = not (moist x) || eqb (Field.word x 28) 0
 unfoldable pub stray_refused : List ℕ → Bool
 stray_refused x = not (isotherm_unused x && (own x).unused x)
 
--- 5: not dc ≤ ds, or 105 ds > 100 Di, or not Di ≤ d; the arrangement adds how its cores or cables lie
+-- 5: not dc ≤ ds, or 105 ds > 100 Di, or, where the current alternates, not Di ≤ d; the arrangement adds how its cores or cables lie
 unfoldable pub geometry_refused : List ℕ → Bool
 geometry_refused x =
     not
     (leb (Field.conductor_diameter x) (Field.screen_diameter x)
     && leb (105 * Field.screen_diameter x) (100 * Field.insulation_diameter x)
-    && leb (Field.insulation_diameter x) (Field.sheath_diameter x)
+    && (direct x || leb (Field.insulation_diameter x) (Field.sheath_diameter x))
     && (own x).geometry x)
 
 -- 6: θc - θa is below 500, or the sheath is hotter than θc, or what armour the arrangement has
@@ -99,6 +109,10 @@ sun_refused x = not (moist x || eqb (Field.solar_heat x) 0)
 unfoldable pub metal_refused : List ℕ → Bool
 metal_refused x = not ((own x).metal x)
 
+-- 33: direct current of more than 5 kV
+unfoldable pub direct_voltage_refused : List ℕ → Bool
+direct_voltage_refused x = direct x && ltb 5000 (Field.voltage x)
+
 -- in the order in which they are tried
 unfoldable pub field_refusals : List ℕ → List Refusal
 field_refusals x =
@@ -111,6 +125,7 @@ field_refusals x =
     ∷ record { number = 31; given = isotherm_refused x }
     ∷ record { number = 32; given = sun_refused x }
     ∷ record { number = 7; given = metal_refused x }
+    ∷ record { number = 33; given = direct_voltage_refused x }
     ∷ []
 
 -- the number of the first that is given, or 0

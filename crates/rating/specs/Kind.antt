@@ -3,7 +3,7 @@ use Rattle.std.specs.Prelude.{◌≡◌, ℕ, Result, MatchResult}
 use Rattle.rating.specs.declared.one_point.Formation.{Formation}
 use Rattle.rating.specs.declared.one_point.Formation.TheVariants.{Trefoil, Flat}
 use Rattle.rating.specs.declared.arrangement.Kind.{Kind}
-use Rattle.rating.specs.declared.arrangement.Kind.TheVariants.{BothEnds, OnePoint, SlType, CommonSheath}
+use Rattle.rating.specs.declared.arrangement.Kind.TheVariants.{BothEnds, OnePoint, SlType, CommonSheath, DirectCurrent}
 use Rattle.rating.specs.declared.refusal.Refusal.{Refusal}
 use Rattle.rating.specs.declared.refusal.Refusal as Code
 use Rattle.rating.specs.Arrangement.{Arrangement}
@@ -11,6 +11,7 @@ use Rattle.rating.specs.BothEnds.{both_ends}
 use Rattle.rating.specs.OnePoint.{one_point}
 use Rattle.rating.specs.SlType.{sl_type}
 use Rattle.rating.specs.CommonSheath.{common_sheath}
+use Rattle.rating.specs.DirectCurrent.{direct_current}
 use Rattle.rating.specs.Arrangements.{arrangement_of, no_arrangement}
 
 abbrev pub j_of : Formation → ℕ
@@ -22,6 +23,7 @@ arrangement_as BothEnds = both_ends
 arrangement_as (OnePoint formation) = one_point (j_of formation)
 arrangement_as SlType = sl_type
 arrangement_as CommonSheath = common_sheath
+arrangement_as DirectCurrent = direct_current
 
 -- refusal 1, where no arrangement has the number
 pub record Unknown (n : ℕ) (refusal : Refusal) : Type 0 where

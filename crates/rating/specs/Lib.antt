@@ -8,7 +8,9 @@ pub mod BothEnds
 pub mod OnePoint
 pub mod SlType
 pub mod CommonSheath
+pub mod DirectCurrent
 pub mod Arrangements
+pub mod Current
 pub mod Allowed
 pub mod FieldRefusals
 pub mod Stage10

@@ -6,13 +6,14 @@ use Rattle.formulas.specs.Sheath.{eddy_loss, eddy_loss*}
 use Rattle.fields.specs.Fields as Field
 use Rattle.rating.specs.Values.{Rs, B}
 use Rattle.rating.specs.Chosen.{B*}
-use Rattle.rating.specs.Arrangement.{Arrangement, armourless, alternating, alternating*}
+use Rattle.rating.specs.Arrangement.{Arrangement, armourless}
 
 -- j is 1 in arrangement 3 and 2 in 4
 unfoldable pub one_point : (j : ℕ) → Arrangement
 one_point j =
     record {
       known = true;
+      alternates = true;
       limits = λ x. true;
       unused = armourless;
       geometry = λ x. leb (Field.sheath_diameter x) (Field.spacing x);
@@ -22,6 +23,9 @@ one_point j =
       reactive = false;
       RA = λ x. 0;
       X = λ x. 0;
-      numbers = λ x. alternating 1 (eddy_loss j (B x) (Rs x) (Field.sheath_diameter x) (Field.spacing x)) 0 x;
-      numbers* = λ x c. alternating* 1 (eddy_loss* j (B* x c) (Rs x) (Field.sheath_diameter x) (Field.spacing x)) (whole 0) x c;
+      n = 1;
+      S = λ x. eddy_loss j (B x) (Rs x) (Field.sheath_diameter x) (Field.spacing x);
+      W = λ x. 0;
+      S* = λ x c. eddy_loss* j (B* x c) (Rs x) (Field.sheath_diameter x) (Field.spacing x);
+      W* = λ x c. whole 0;
     }

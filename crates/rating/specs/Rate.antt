@@ -4,8 +4,9 @@ use Rattle.std.specs.Prelude.{◌≡◌, refl, cond, List, [], ◌∷◌, ℕ, e
 use Rattle.rating.specs.declared.rate.Rated.{Rated}
 use Rattle.rating.specs.declared.refusal.Refusal.{Refusal}
 use Rattle.rating.specs.Refusal.{number_of}
-use Rattle.rating.specs.Values.{R', Rs, B, ys, yp, Wd}
+use Rattle.rating.specs.Values.{R', Rs, B, ys, yp}
 use Rattle.rating.specs.Arrangements.{own}
+use Rattle.rating.specs.Current.{of_alternating, Wd_of}
 use Rattle.rating.specs.FieldRefusals.{field_refusal}
 use Rattle.rating.specs.StageRefusals.{skin_refused, eddy_refused, dielectric_refused, current_refused}
 use Rattle.rating.specs.Stage10.{numbers_of, E, current_of}
@@ -29,7 +30,8 @@ unfoldable pub sheet_of : List ℕ → List ℕ
 sheet_of x =
     let a = own x in
     let ν = numbers_of x in
-    R' x ∷ Rs x ∷ a.RA x ∷ B x ∷ ys x ∷ yp x ∷ ν.R ∷ a.X x ∷ ν.S ∷ ν.W ∷ Wd x ∷ ν.dd ∷ E x ∷ []
+    let ac = of_alternating x in
+    R' x ∷ ac (Rs x) ∷ a.RA x ∷ ac (B x) ∷ ac (ys x) ∷ ac (yp x) ∷ ν.R ∷ a.X x ∷ ν.S ∷ ν.W ∷ Wd_of x ∷ ν.dd ∷ E x ∷ []
 
 unfoldable pub rated : List ℕ → Answer
 rated x = record { number = 0; rating = current_of x; sheet = sheet_of x }

@@ -11,6 +11,7 @@ use Rattle.rating.specs.declared.refusal.Refusal.TheVariants.{
   Isotherm,
   Sun,
   Metal,
+  DirectVoltage,
   Skin,
   Eddy,
   Dielectric,
@@ -27,6 +28,7 @@ number_of Heat = 6
 number_of Isotherm = 31
 number_of Sun = 32
 number_of Metal = 7
+number_of DirectVoltage = 33
 number_of Skin = 8
 number_of Eddy = 9
 number_of Dielectric = 10

@@ -8,7 +8,7 @@ use Rattle.fields.specs.Fields as Field
 use Rattle.rating.specs.Within.{within, within_z}
 use Rattle.rating.specs.Values.{Rs, RA, B, X, XLow}
 use Rattle.rating.specs.Chosen.{B*, X*}
-use Rattle.rating.specs.Arrangement.{Arrangement, axis_limits, alternating, alternating*}
+use Rattle.rating.specs.Arrangement.{Arrangement, axis_limits}
 
 -- fields 17 to 21
 unfoldable pub armour_limits : List ℕ → Bool
@@ -23,6 +23,7 @@ unfoldable pub sl_type : Arrangement
 sl_type =
     record {
       known = true;
+      alternates = true;
       limits = armour_limits;
       unused = λ x. true;
       geometry =
@@ -33,17 +34,9 @@ sl_type =
       reactive = true;
       RA = RA;
       X = X;
-      numbers =
-          λ x.
-          alternating 3
-          (sl_loss (X x) (Rs x))
-          (armour_loss (RA x) (B x) (Field.axis_distance x) (Field.armour_diameter x) (XLow x) (Rs x))
-          x;
-      numbers* =
-          λ x c.
-          alternating* 3
-          (sl_loss* (X* x c) (Rs x))
-          (armour_loss* (RA x) (B* x c) (Field.axis_distance x) (Field.armour_diameter x) (X* x c) (Rs x))
-          x
-          c;
+      n = 3;
+      S = λ x. sl_loss (X x) (Rs x);
+      W = λ x. armour_loss (RA x) (B x) (Field.axis_distance x) (Field.armour_diameter x) (XLow x) (Rs x);
+      S* = λ x c. sl_loss* (X* x c) (Rs x);
+      W* = λ x c. armour_loss* (RA x) (B* x c) (Field.axis_distance x) (Field.armour_diameter x) (X* x c) (Rs x);
     }

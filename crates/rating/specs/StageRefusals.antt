@@ -7,9 +7,9 @@ use Rattle.rating.specs.Values.{Rs, B, zs, zp, permitted_of}
 use Rattle.rating.specs.Arrangements.{own}
 use Rattle.rating.specs.Stage10.{d0, current_of}
 
--- 8
+-- 8, which is not tried with direct current
 abbrev pub skin_refused : List ℕ → Bool
-skin_refused x = Test.skin_refused (zs x) (zp x)
+skin_refused x = (own x).alternates && Test.skin_refused (zs x) (zp x)
 
 -- 9, where the arrangement has it tried
 abbrev pub eddy_refused : List ℕ → Bool

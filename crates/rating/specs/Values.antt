@@ -1,5 +1,5 @@
 -- docs/RATING.md, stages 1 to 6 and 9 on a case: each value that does not depend on the arrangement alone, under the paper's letter.
--- What an arrangement makes of them stands in Arrangement. Assumes nothing.
+-- What an arrangement makes of them stands in Arrangement, and what direct current has of them in Current. Assumes nothing.
 use Rattle.std.specs.Prelude.{Bool, cond, List, ℕ, ◌-ℤ◌, leb, nat_abs}
 use Rattle.formulas.specs.Tables.{ks, kp, coefficient, conductor_metal}
 use Rattle.formulas.specs.Resistance.{resistance}

@@ -7,6 +7,7 @@ ghost use Rattle.rating.specs.Laws.Steps.{Asks, Loses};
 
 use super::both_ends::BothEnds;
 use super::common_sheath::CommonSheath;
+use super::direct_current::DirectCurrent;
 use super::field_refusals::within;
 use super::judge::FitCase;
 use super::one_point::Formation;
@@ -16,9 +17,11 @@ use fields::{
     ARMOUR_DIAMETER, ARMOUR_METAL, ARMOUR_RESISTANCE, ARMOUR_TEMPERATURE, AXIS_DISTANCE, Case,
 };
 
-// Whether a case passes what it asks beyond every arrangement, for refusals 3 to 7; and whether refusal 9 is tried.
+// Whether its current alternates; whether a case passes what it asks beyond every arrangement with that current, for refusals 3 to 7; and
+// whether refusal 9 is tried.
 #[derive(Clone, Copy)]
 pub struct Rules {
+    pub alternates: bool,
     pub limits: bool,
     pub unused: bool,
     pub geometry: bool,
@@ -56,6 +59,7 @@ pub enum Kind {
     OnePoint(Formation),
     SlType,
     CommonSheath,
+    DirectCurrent,
 }
 
 #[tactic(auto, unfolding(crate::specs::Arrangements::arrangement_of))]
@@ -66,11 +70,13 @@ impl TryFrom<u32> for Kind {
 
     fn try_from(number: u32) -> Result<Self, Refusal> {
         match number {
-            1 | 2 => Ok(Kind::BothEnds),
+            1 => Ok(Kind::BothEnds),
+            2 => Ok(Kind::BothEnds),
             3 => Ok(Kind::OnePoint(Formation::Trefoil)),
             4 => Ok(Kind::OnePoint(Formation::Flat)),
             5 => Ok(Kind::SlType),
             6 => Ok(Kind::CommonSheath),
+            7 => Ok(Kind::DirectCurrent),
             _ => Err(Refusal::Arrangement),
         }
     }
@@ -87,6 +93,7 @@ impl Arrangement for Kind {
             Kind::OnePoint(formation) => formation.rules(x),
             Kind::SlType => SlType.rules(x),
             Kind::CommonSheath => CommonSheath.rules(x),
+            Kind::DirectCurrent => DirectCurrent.rules(x),
         }
     }
 
@@ -96,6 +103,7 @@ impl Arrangement for Kind {
             Kind::OnePoint(formation) => formation.losses(fit),
             Kind::SlType => SlType.losses(fit),
             Kind::CommonSheath => CommonSheath.losses(fit),
+            Kind::DirectCurrent => DirectCurrent.losses(fit),
         }
     }
 }

@@ -16,6 +16,7 @@ impl Arrangement for BothEnds {
     #[tactic(auto, unfolding(crate::specs::BothEnds::both_ends))]
     fn rules(&self, x: Case) -> Rules {
         Rules {
+            alternates: true,
             limits: true,
             unused: armourless(x),
             geometry: x[SHEATH_DIAMETER] <= x[SPACING],

@@ -1,5 +1,5 @@
 // A case that the refusals of the fields let pass, and what the stages take of it: its resistances, its rise, B and its z.
-ghost use Rattle.std.specs.Prelude.{◌≡◌, ◌≤◌, ◌-ℤ◌, nat_abs};
+ghost use Rattle.std.specs.Prelude.{◌≡◌, true, ◌≤◌, ◌-ℤ◌, nat_abs};
 ghost use Rattle.std.specs.Int.{w32};
 ghost use Rattle.std.proofs.Common.{to_z};
 ghost use Rattle.formulas.specs.Laws.Bounds.{most_k};
@@ -26,15 +26,17 @@ use stages::skin::skin_ratio;
 use tables::{coefficient, conductor_metal};
 use wide::rounding::Up;
 
-// `eddies`: whether refusal 9 is tried.
+// `alternates`: whether its current does. `eddies`: whether refusal 9 is tried.
 #[derive(Clone, Copy)]
 pub struct SoundCase {
     pub x: Case,
     pub kind: Kind,
+    pub alternates: bool,
     pub eddies: bool,
     ghost has: { own x ≡ arrangement_as kind },
     ghost none_given: { field_refusal x ≡ 0 },
     ghost sound: { Sound x },
+    ghost alternates_is: { alternates ≡ (own x).alternates },
     ghost eddies_is: { eddies ≡ (own x).eddies },
 }
 
@@ -66,6 +68,7 @@ impl SoundCase {
 
     #[tactic(auto, unfolding(crate::specs::Values::Rs))]
     pub(crate) fn sheath_resistance(&self) -> u64
+        requires { (own self.now.x).alternates ≡ true }
         ensures { result ≡ Rs self.now.x }
     {
         resistance_of(
@@ -77,6 +80,7 @@ impl SoundCase {
 
     #[tactic(auto, unfolding(crate::specs::Values::B))]
     pub(crate) fn reactance(&self) -> u64
+        requires { (own self.now.x).alternates ≡ true }
         ensures { result ≡ B self.now.x }
     {
         reactance::<Up>(u64::from(self.x[FREQUENCY]))
@@ -84,6 +88,7 @@ impl SoundCase {
 
     // z with k, which is ks or kp.
     pub(crate) fn skin_ratio(&self, k: u32, rc: u64) -> u64
+        requires alternates { (own self.now.x).alternates ≡ true }
         requires k_most { k ≤ most_k }
         requires rc_is { rc ≡ R' self.now.x }
         ensures { result ≡ skin_ratio (Field.frequency self.now.x) k (R' self.now.x) }

@@ -16,6 +16,7 @@ impl Arrangement for CommonSheath {
     #[tactic(auto, unfolding(crate::specs::CommonSheath::common_sheath))]
     fn rules(&self, x: Case) -> Rules {
         Rules {
+            alternates: true,
             limits: axis_limits(x),
             unused: no_armour(x),
             geometry: (x[CONDUCTOR_DIAMETER] <= x[SPACING])

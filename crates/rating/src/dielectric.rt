@@ -1,10 +1,9 @@
 // Stage 9 on a case: the dielectric loss, and its rise with n cores.
-ghost use Rattle.std.specs.Prelude.{◌≡◌, ◌≤◌};
-ghost use Rattle.formulas.specs.Dielectric.{dielectric_rise};
-ghost use Rattle.formulas.specs.Laws.Bounds.{most_cores};
-ghost use Rattle.fields.specs.Fields as Field;
+ghost use Rattle.std.specs.Prelude.{◌≡◌, true};
+ghost use Rattle.rating.specs.Arrangements.{own};
 ghost use Rattle.rating.specs.Laws.Steps.{IsThermal};
-ghost use Rattle.rating.specs.Values.{B, soil_T4, Wd, loss_counts};
+ghost use Rattle.rating.specs.Stage10.{numbers_of};
+ghost use Rattle.rating.specs.Values.{B, Wd, loss_counts};
 
 use super::case::SoundCase;
 use super::judge::FitCase;
@@ -26,7 +25,8 @@ impl SoundCase {
 
     #[tactic(auto, unfolding(crate::specs::Values::Wd))]
     pub(crate) fn dielectric_loss(&self, b: u64) -> u64
-        requires { b ≡ B self.now.x }
+        requires alternates { (own self.now.x).alternates ≡ true }
+        requires b_is { b ≡ B self.now.x }
         ensures { result ≡ Wd self.now.x }
     {
         if !self.loss_counts() {
@@ -47,10 +47,9 @@ impl SoundCase {
 
 impl FitCase {
     pub(crate) fn dielectric_rise(&self, n: u64, t: Thermal) -> u64
-        requires n_most { n ≤ most_cores }
+        requires n_is { n ≡ (own self.now.case.x).n }
         requires t_is { IsThermal self.now.case.x t }
-        ensures { let x = self.now.case.x in
-            result ≡ dielectric_rise n (Wd x) (Field.t1 x) (Field.t2 x) (Field.t3 x) (soil_T4 x) }
+        ensures { result ≡ (numbers_of self.now.case.x).dd }
     {
         dielectric_rise(n, self.wd, t)
     }

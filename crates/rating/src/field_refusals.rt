@@ -59,21 +59,22 @@ fn conductor_refused(x: Case) -> bool
 fn conductor_limits(x: Case) -> bool
     ensures { result ≡ FieldRefusals.conductor_limits x }
 {
-    within(1000, 6500, x[FREQUENCY])
-        & within_signed(4000, 25000, x[CONDUCTOR_TEMPERATURE])
+    within_signed(4000, 25000, x[CONDUCTOR_TEMPERATURE])
         & within_signed(-4000, 6000, x[AMBIENT_TEMPERATURE])
         & within(5000, 20000000, x[CONDUCTOR_RESISTANCE])
         & within(100, 10000, x[CONDUCTOR_DIAMETER])
-        & within(100, 1000000, x[SPACING])
         & within(100, 20000, x[SCREEN_DIAMETER])
         & within(100, 30000, x[INSULATION_DIAMETER])
+        & within(0, 300000, x[VOLTAGE])
 }
 
-#[tactic(auto, unfolding(crate::specs::FieldRefusals::sheath_limits))]
-fn sheath_limits(x: Case) -> bool
-    ensures { result ≡ FieldRefusals.sheath_limits x }
+// Of the fields that only an alternating current has.
+#[tactic(auto, unfolding(crate::specs::FieldRefusals::alternating_limits))]
+fn alternating_limits(x: Case) -> bool
+    ensures { result ≡ FieldRefusals.alternating_limits x }
 {
-    within(0, 300000, x[VOLTAGE])
+    within(1000, 6500, x[FREQUENCY])
+        & within(100, 1000000, x[SPACING])
         & within(100, 800, x[PERMITTIVITY])
         & within(1, 10000, x[LOSS_FACTOR])
         & within(100, 50000, x[SHEATH_DIAMETER])
@@ -110,13 +111,18 @@ fn further_limits(x: Case) -> bool
         & within(0, 200000, x[SOLAR_HEAT])
 }
 
-// `its` is what the arrangement answered, a value and no switch.
+// `alternates` and `its` are what the arrangement answered, values and no switches.
 #[tactic(auto, unfolding(crate::specs::FieldRefusals::limit_refused))]
-fn limit_refused(x: Case, its: bool) -> bool
-    requires { its ≡ (own x).limits x }
+fn limit_refused(x: Case, alternates: bool, its: bool) -> bool
+    requires alternates_is { alternates ≡ (own x).alternates }
+    requires its_is { its ≡ (own x).limits x }
     ensures { result ≡ FieldRefusals.limit_refused x }
 {
-    !(conductor_limits(x) & sheath_limits(x) & thermal_limits(x) & further_limits(x) & its)
+    !(conductor_limits(x)
+        & (!alternates | alternating_limits(x))
+        & thermal_limits(x)
+        & further_limits(x)
+        & its)
 }
 
 // Field 28 is zero where no soil dries out.
@@ -136,13 +142,14 @@ fn stray_refused(x: Case, its: bool) -> bool
 }
 
 #[tactic(auto, unfolding(crate::specs::FieldRefusals::geometry_refused))]
-fn geometry_refused(x: Case, its: bool) -> bool
-    requires { its ≡ (own x).geometry x }
+fn geometry_refused(x: Case, alternates: bool, its: bool) -> bool
+    requires alternates_is { alternates ≡ (own x).alternates }
+    requires its_is { its ≡ (own x).geometry x }
     ensures { result ≡ FieldRefusals.geometry_refused x }
 {
     !((x[CONDUCTOR_DIAMETER] <= x[SCREEN_DIAMETER])
         & (105 * u64::from(x[SCREEN_DIAMETER]) <= 100 * u64::from(x[INSULATION_DIAMETER]))
-        & (x[INSULATION_DIAMETER] <= x[SHEATH_DIAMETER])
+        & (!alternates | (x[INSULATION_DIAMETER] <= x[SHEATH_DIAMETER]))
         & its)
 }
 
@@ -172,6 +179,14 @@ fn sun_refused(x: Case) -> bool
     !(moist(x) | (x[SOLAR_HEAT] == 0))
 }
 
+#[tactic(auto, unfolding(crate::specs::FieldRefusals::direct_voltage_refused))]
+fn direct_voltage_refused(x: Case, alternates: bool) -> bool
+    requires { alternates ≡ (own x).alternates }
+    ensures { result ≡ FieldRefusals.direct_voltage_refused x }
+{
+    !alternates & (5000 < x[VOLTAGE])
+}
+
 // The first that is given, in the order in which they are tried.
 #[tactic(auto, unfolding(bools::specs::First::or_refused, crate::specs::FieldRefusals::field_refusals))]
 pub(crate) fn check_fields(x: Case, rules: Rules) -> Result<(), Refusal>
@@ -181,13 +196,13 @@ pub(crate) fn check_fields(x: Case, rules: Rules) -> Result<(), Refusal>
     if conductor_refused(x) {
         return Err(Refusal::Conductor);
     }
-    if limit_refused(x, rules.limits) {
+    if limit_refused(x, rules.alternates, rules.limits) {
         return Err(Refusal::Limit);
     }
     if stray_refused(x, rules.unused) {
         return Err(Refusal::Stray);
     }
-    if geometry_refused(x, rules.geometry) {
+    if geometry_refused(x, rules.alternates, rules.geometry) {
         return Err(Refusal::Geometry);
     }
     if heat_refused(x, rules.heat) {
@@ -201,6 +216,9 @@ pub(crate) fn check_fields(x: Case, rules: Rules) -> Result<(), Refusal>
     }
     if !rules.metal {
         return Err(Refusal::Metal);
+    }
+    if direct_voltage_refused(x, rules.alternates) {
+        return Err(Refusal::DirectVoltage);
     }
     Ok(())
 }

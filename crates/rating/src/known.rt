@@ -37,6 +37,7 @@ impl KnownCase {
         Ok(SoundCase {
             x: self.x,
             kind: self.kind,
+            alternates: rules.alternates,
             eddies: rules.eddies,
         })
     }

@@ -8,6 +8,7 @@ mod case;
 mod common_sheath;
 mod conductor;
 mod dielectric;
+mod direct_current;
 mod field_refusals;
 mod judge;
 mod known;

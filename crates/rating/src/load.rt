@@ -16,7 +16,7 @@ use stages::thermal::Thermal;
 const MOST_CURRENT: u64 = 5_000_000;
 
 impl FitCase {
-    #[tactic(auto, unfolding(crate::specs::Stage10::E, crate::specs::Arrangement::alternating))]
+    #[tactic(auto, unfolding(crate::specs::Stage10::E))]
     fn unit_rise(&self, l: Losses, t: Thermal) -> u64
         requires l_is { Loses (own self.now.case.x) self.now.case.x l }
         requires t_is { IsThermal self.now.case.x t }

@@ -32,6 +32,7 @@ impl Arrangement for Formation {
     #[tactic(auto, unfolding(crate::specs::OnePoint::one_point))]
     fn rules(&self, x: Case) -> Rules {
         Rules {
+            alternates: true,
             limits: true,
             unused: armourless(x),
             geometry: x[SHEATH_DIAMETER] <= x[SPACING],

@@ -56,6 +56,7 @@ impl Arrangement for SlType {
     #[tactic(auto, unfolding(crate::specs::SlType::sl_type))]
     fn rules(&self, x: Case) -> Rules {
         Rules {
+            alternates: true,
             limits: armour_limits(x),
             unused: true,
             geometry: (x[SHEATH_DIAMETER] <= x[SPACING])

@@ -5,7 +5,8 @@
  * A pointer and the length after it must belong together, as everywhere in C.
  *
  * A book bears one of two marks (docs/BOOK.md). sheafdawn_start writes RBK2, and sheafdawn_append takes no other. sheafdawn_read and
- * sheafdawn_accept also take a book of RBK1, whose records have inputs 0 to 25 alone: the others are read as zeros.
+ * sheafdawn_accept also take a book of RBK1, whose records have inputs 0 to 25 alone: the others are read as zeros. In such a book a case
+ * of arrangement 7 is refused by 1.
  */
 #ifndef SHEAFDAWN_H
 #define SHEAFDAWN_H
@@ -27,31 +28,31 @@ extern "C" {
 enum {
     SHEAFDAWN_FIELD_ARRANGEMENT = 0,            /* one of the arrangements below */
     SHEAFDAWN_FIELD_CONDUCTOR = 1,              /* a conductor's code */
-    SHEAFDAWN_FIELD_FREQUENCY = 2,              /* f */
+    SHEAFDAWN_FIELD_FREQUENCY = 2,              /* f; in arrangements 1 to 6 only */
     SHEAFDAWN_FIELD_CONDUCTOR_TEMPERATURE = 3,  /* theta_c */
     SHEAFDAWN_FIELD_AMBIENT_TEMPERATURE = 4,    /* theta_a */
     SHEAFDAWN_FIELD_CONDUCTOR_RESISTANCE = 5,   /* R0 */
     SHEAFDAWN_FIELD_CONDUCTOR_DIAMETER = 6,     /* dc */
-    SHEAFDAWN_FIELD_SPACING = 7,                /* s */
+    SHEAFDAWN_FIELD_SPACING = 7,                /* s; in arrangements 1 to 6 only */
     SHEAFDAWN_FIELD_SCREEN_DIAMETER = 8,        /* ds */
     SHEAFDAWN_FIELD_INSULATION_DIAMETER = 9,    /* Di */
-    SHEAFDAWN_FIELD_VOLTAGE = 10,               /* U0 */
-    SHEAFDAWN_FIELD_PERMITTIVITY = 11,          /* e */
-    SHEAFDAWN_FIELD_LOSS_FACTOR = 12,           /* t */
-    SHEAFDAWN_FIELD_SHEATH_DIAMETER = 13,       /* d */
-    SHEAFDAWN_FIELD_SHEATH_METAL = 14,          /* a metal's code */
-    SHEAFDAWN_FIELD_SHEATH_RESISTANCE = 15,     /* Rs0 */
-    SHEAFDAWN_FIELD_SHEATH_TEMPERATURE = 16,    /* theta_s */
+    SHEAFDAWN_FIELD_VOLTAGE = 10,               /* U0; at most 5000 V in arrangement 7 */
+    SHEAFDAWN_FIELD_PERMITTIVITY = 11,          /* e; in arrangements 1 to 6 only */
+    SHEAFDAWN_FIELD_LOSS_FACTOR = 12,           /* t; in arrangements 1 to 6 only */
+    SHEAFDAWN_FIELD_SHEATH_DIAMETER = 13,       /* d; in arrangements 1 to 6 only */
+    SHEAFDAWN_FIELD_SHEATH_METAL = 14,          /* a metal's code; in arrangements 1 to 6 only */
+    SHEAFDAWN_FIELD_SHEATH_RESISTANCE = 15,     /* Rs0; in arrangements 1 to 6 only */
+    SHEAFDAWN_FIELD_SHEATH_TEMPERATURE = 16,    /* theta_s; in arrangements 1 to 6 only */
     SHEAFDAWN_FIELD_ARMOUR_METAL = 17,          /* a metal's code; in arrangement 5 only */
     SHEAFDAWN_FIELD_ARMOUR_RESISTANCE = 18,     /* RA0; in arrangement 5 only */
     SHEAFDAWN_FIELD_ARMOUR_TEMPERATURE = 19,    /* theta_A; in arrangement 5 only */
     SHEAFDAWN_FIELD_AXIS_DISTANCE = 20,         /* c; in arrangements 5 and 6 only */
     SHEAFDAWN_FIELD_ARMOUR_DIAMETER = 21,       /* dA; in arrangement 5 only */
-    SHEAFDAWN_FIELD_T1 = 22,                    /* conductor to sheath, of one core */
+    SHEAFDAWN_FIELD_T1 = 22,                    /* conductor to sheath, of one core; in arrangement 7 to screen or covering */
     SHEAFDAWN_FIELD_T2 = 23,                    /* sheath to armour */
     SHEAFDAWN_FIELD_T3 = 24,                    /* outer covering */
     SHEAFDAWN_FIELD_T4 = 25,                    /* cable surface to ambient */
-    SHEAFDAWN_FIELD_LOSS_VOLTAGE = 26,          /* the U0 from which the dielectric loss counts */
+    SHEAFDAWN_FIELD_LOSS_VOLTAGE = 26,          /* the U0 from which the dielectric loss counts; without effect in arrangement 7 */
     SHEAFDAWN_FIELD_DRY_RATIO = 27,             /* rho, dry over moist soil's resistivity in thousandths; 0: no soil dries out */
     SHEAFDAWN_FIELD_ISOTHERM = 28,              /* theta_x, the critical isotherm's temperature; 0 where rho is 0 */
     SHEAFDAWN_FIELD_SOLAR_HEAT = 29             /* Q, the sun's heat taken up in mW/m, T4 then adjusted for it; 0 where rho is not 0 */
@@ -70,10 +71,11 @@ enum {
     SHEAFDAWN_ARRANGEMENT_TREFOIL_ONE_POINT = 3,  /* single-core, trefoil, sheaths bonded at one point */
     SHEAFDAWN_ARRANGEMENT_FLAT_ONE_POINT = 4,     /* single-core, flat, sheaths bonded at one point; the centre cable */
     SHEAFDAWN_ARRANGEMENT_SL_TYPE = 5,            /* three-core, a lead sheath on each core, steel wire armour */
-    SHEAFDAWN_ARRANGEMENT_COMMON_SHEATH = 6       /* three-core, one sheath around all cores, no armour */
+    SHEAFDAWN_ARRANGEMENT_COMMON_SHEATH = 6,      /* three-core, one sheath around all cores, no armour */
+    SHEAFDAWN_ARRANGEMENT_DIRECT_CURRENT = 7      /* one single-core cable of a d.c. feeder */
 };
 
-/* Where sheafdawn_rate writes the rating and the numbers of the sheet. */
+/* Where sheafdawn_rate writes the rating and the numbers of the sheet. In arrangement 7 the sheet is 0 but for R', R and E. */
 enum {
     SHEAFDAWN_RATING = 0,      /* in mA */
     SHEAFDAWN_SHEET_R_DC = 1,  /* R', conductor, d.c. */
@@ -82,8 +84,8 @@ enum {
     SHEAFDAWN_SHEET_B = 4,     /* B, 4 pi f / 10^7 */
     SHEAFDAWN_SHEET_YS = 5,    /* ys, skin effect factor */
     SHEAFDAWN_SHEET_YP = 6,    /* yp, proximity effect factor */
-    SHEAFDAWN_SHEET_R_AC = 7,  /* R, conductor, a.c. */
-    SHEAFDAWN_SHEET_X = 8,     /* X, sheath reactance; 0 in arrangements 3, 4 and 6 */
+    SHEAFDAWN_SHEET_R_AC = 7,  /* R, conductor, a.c.; in arrangement 7 R' */
+    SHEAFDAWN_SHEET_X = 8,     /* X, sheath reactance; 0 in arrangements 3, 4, 6 and 7 */
     SHEAFDAWN_SHEET_S = 9,     /* S, sheath loss / I^2 */
     SHEAFDAWN_SHEET_W = 10,    /* W, armour loss / I^2; 0 except in arrangement 5 */
     SHEAFDAWN_SHEET_WD = 11,   /* Wd, dielectric loss of a core */
@@ -91,7 +93,7 @@ enum {
     SHEAFDAWN_SHEET_E = 13     /* E, rise by the current / I^2 */
 };
 
-/* The refusals: of a case, 1 to 11, 31 and 32 (docs/RATING.md), in the order of trial; of a book, 20 to 26 (docs/BOOK.md). */
+/* The refusals: of a case, 1 to 11 and 31 to 33 (docs/RATING.md), in the order of trial; of a book, 20 to 26 (docs/BOOK.md). */
 enum {
     SHEAFDAWN_REFUSAL_ARRANGEMENT = 1,
     SHEAFDAWN_REFUSAL_CONDUCTOR = 2,
@@ -102,6 +104,7 @@ enum {
     SHEAFDAWN_REFUSAL_ISOTHERM = 31,
     SHEAFDAWN_REFUSAL_SUN = 32,
     SHEAFDAWN_REFUSAL_METAL = 7,
+    SHEAFDAWN_REFUSAL_DC_VOLTAGE = 33,
     SHEAFDAWN_REFUSAL_SKIN = 8,
     SHEAFDAWN_REFUSAL_EDDY = 9,
     SHEAFDAWN_REFUSAL_DIELECTRIC = 10,
@@ -127,6 +130,7 @@ static inline const char *sheafdawn_word(uint32_t refusal) {
     case SHEAFDAWN_REFUSAL_ISOTHERM: return "isotherm";
     case SHEAFDAWN_REFUSAL_SUN: return "sun";
     case SHEAFDAWN_REFUSAL_METAL: return "metal";
+    case SHEAFDAWN_REFUSAL_DC_VOLTAGE: return "d.c. voltage";
     case SHEAFDAWN_REFUSAL_SKIN: return "skin";
     case SHEAFDAWN_REFUSAL_EDDY: return "eddy";
     case SHEAFDAWN_REFUSAL_DIELECTRIC: return "dielectric";

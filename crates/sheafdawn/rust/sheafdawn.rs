@@ -15,7 +15,7 @@ pub mod field {
     pub const ARRANGEMENT: usize = 0;
     /// a conductor's code
     pub const CONDUCTOR: usize = 1;
-    /// f
+    /// f; in arrangements 1 to 6 only
     pub const FREQUENCY: usize = 2;
     /// theta_c
     pub const CONDUCTOR_TEMPERATURE: usize = 3;
@@ -25,25 +25,25 @@ pub mod field {
     pub const CONDUCTOR_RESISTANCE: usize = 5;
     /// dc
     pub const CONDUCTOR_DIAMETER: usize = 6;
-    /// s
+    /// s; in arrangements 1 to 6 only
     pub const SPACING: usize = 7;
     /// ds
     pub const SCREEN_DIAMETER: usize = 8;
     /// Di
     pub const INSULATION_DIAMETER: usize = 9;
-    /// U0
+    /// U0; at most 5000 V in arrangement 7
     pub const VOLTAGE: usize = 10;
-    /// e
+    /// e; in arrangements 1 to 6 only
     pub const PERMITTIVITY: usize = 11;
-    /// t
+    /// t; in arrangements 1 to 6 only
     pub const LOSS_FACTOR: usize = 12;
-    /// d
+    /// d; in arrangements 1 to 6 only
     pub const SHEATH_DIAMETER: usize = 13;
-    /// a metal's code
+    /// a metal's code; in arrangements 1 to 6 only
     pub const SHEATH_METAL: usize = 14;
-    /// Rs0
+    /// Rs0; in arrangements 1 to 6 only
     pub const SHEATH_RESISTANCE: usize = 15;
-    /// theta_s
+    /// theta_s; in arrangements 1 to 6 only
     pub const SHEATH_TEMPERATURE: usize = 16;
     /// a metal's code; in arrangement 5 only
     pub const ARMOUR_METAL: usize = 17;
@@ -55,7 +55,7 @@ pub mod field {
     pub const AXIS_DISTANCE: usize = 20;
     /// dA; in arrangement 5 only
     pub const ARMOUR_DIAMETER: usize = 21;
-    /// conductor to sheath, of one core
+    /// conductor to sheath, of one core; in arrangement 7 to screen or covering
     pub const T1: usize = 22;
     /// sheath to armour
     pub const T2: usize = 23;
@@ -63,7 +63,7 @@ pub mod field {
     pub const T3: usize = 24;
     /// cable surface to ambient
     pub const T4: usize = 25;
-    /// the U0 from which the dielectric loss counts
+    /// the U0 from which the dielectric loss counts; without effect in arrangement 7
     pub const LOSS_VOLTAGE: usize = 26;
     /// rho, dry over moist soil's resistivity in thousandths; 0: no soil dries out
     pub const DRY_RATIO: usize = 27;
@@ -95,9 +95,11 @@ pub mod arrangement {
     pub const SL_TYPE: u32 = 5;
     /// three-core, one sheath around all cores, no armour
     pub const COMMON_SHEATH: u32 = 6;
+    /// one single-core cable of a d.c. feeder
+    pub const DIRECT_CURRENT: u32 = 7;
 }
 
-/// Where the numbers of the sheet stand in `Rated::sheet`.
+/// Where the numbers of the sheet stand in `Rated::sheet`. In arrangement 7 it is 0 but for R', R and E.
 pub mod sheet {
     /// R', conductor, d.c.
     pub const R_DC: usize = 0;
@@ -111,9 +113,9 @@ pub mod sheet {
     pub const YS: usize = 4;
     /// yp, proximity effect factor
     pub const YP: usize = 5;
-    /// R, conductor, a.c.
+    /// R, conductor, a.c.; in arrangement 7 R'
     pub const R_AC: usize = 6;
-    /// X, sheath reactance; 0 in arrangements 3, 4 and 6
+    /// X, sheath reactance; 0 in arrangements 3, 4, 6 and 7
     pub const X: usize = 7;
     /// S, sheath loss / I^2
     pub const S: usize = 8;
@@ -139,6 +141,7 @@ pub mod refusal {
     pub const ISOTHERM: u32 = 31;
     pub const SUN: u32 = 32;
     pub const METAL: u32 = 7;
+    pub const DC_VOLTAGE: u32 = 33;
     pub const SKIN: u32 = 8;
     pub const EDDY: u32 = 9;
     pub const DIELECTRIC: u32 = 10;
@@ -164,6 +167,7 @@ pub fn word(refusal: u32) -> &'static str {
         refusal::ISOTHERM => "isotherm",
         refusal::SUN => "sun",
         refusal::METAL => "metal",
+        refusal::DC_VOLTAGE => "d.c. voltage",
         refusal::SKIN => "skin",
         refusal::EDDY => "eddy",
         refusal::DIELECTRIC => "dielectric",
@@ -295,7 +299,7 @@ pub fn read(buffer: &[u8], used: usize, index: usize) -> Result<Record, Refused>
     answered(number, 0, out)
 }
 
-/// Accepts a book of either mark.
+/// Accepts a book of either mark. In one of RBK1 a case of arrangement 7 is refused by 1.
 pub fn accept(buffer: &[u8], used: usize) -> Result<Accepted, Refused> {
     let mut out = [0; 3];
     let number = unsafe {

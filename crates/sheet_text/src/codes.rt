@@ -3,8 +3,10 @@
 ghost use Rattle.std.specs.Prelude.{[], ◌≡◌, ◌≤◌, length};
 
 // The arrangements by the word of a case: rating's Kind has 1 and 2 as one, and a refused case may
-// have none; and those that have fields which others lack.
-pub const ALL: [u32; 6] = [1, 2, 3, 4, SL_TYPE, COMMON_SHEATH];
+// have none. All; those whose current alternates; and those that have fields which others lack.
+pub const ALL: [u32; 7] = [1, 2, 3, 4, SL_TYPE, COMMON_SHEATH, 7];
+
+pub const ALTERNATING: [u32; 6] = [1, 2, 3, 4, SL_TYPE, COMMON_SHEATH];
 
 pub const SL_TYPE: u32 = 5;
 
@@ -12,7 +14,7 @@ pub const COMMON_SHEATH: u32 = 6;
 
 // What the codes stand for, each at the place of its number. Where there is no code 0, none stands for
 // anything there.
-pub const ARRANGEMENTS: [&str; 7] = [
+pub const ARRANGEMENTS: [&str; 8] = [
     "",
     "single-core, trefoil, bonded at both ends",
     "single-core, flat, transposed, bonded at both ends",
@@ -20,6 +22,7 @@ pub const ARRANGEMENTS: [&str; 7] = [
     "single-core, flat, bonded at one point, centre cable",
     "three-core SL type, steel wire armour",
     "three-core, common sheath",
+    "single-core, direct current",
 ];
 
 pub const CONDUCTORS: [&str; 9] = [

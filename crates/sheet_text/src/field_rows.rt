@@ -3,7 +3,9 @@
 ghost use Rattle.std.specs.Prelude.{◌≡◌};
 ghost use Rattle.sheet_text.specs.Fields.{value_text};
 
-use crate::codes::{ALL, ARRANGEMENTS, COMMON_SHEATH, CONDUCTORS, METALS, SL_TYPE, words_of};
+use crate::codes::{
+    ALL, ALTERNATING, ARRANGEMENTS, COMMON_SHEATH, CONDUCTORS, METALS, SL_TYPE, words_of,
+};
 use crate::fixed::{Value, put_fixed, put_signed};
 use crate::line::{Label, put_line};
 use arrayvec::ArrayString;
@@ -18,8 +20,10 @@ enum Form {
     Code(&'static [&'static str]),
 }
 
-// A row of the sheet, and the arrangements that have it: only the SL type has armour, and c is the
-// distance of a core's axis from that of a cable with three cores.
+// A row of the sheet, and the arrangements that have it: those in which the field need not be 0. Only
+// the SL type has armour, c is the distance of a core's axis from that of a cable with three cores, and
+// a case of direct current has no frequency, spacing, insulation losses or sheath. Ud has no effect
+// there either, but it need not be 0.
 struct Field {
     label: Label,
     form: Form,
@@ -47,23 +51,23 @@ const DIGITS: usize = 6;
 
 // The rows, in the order of a case's fields. The meanings end in the limits.
 const FIELDS: [Field; WIDTH] = [
-    field!("  arrangement", "[1 to 6]", "", 0; Form::Code(&ARRANGEMENTS), &ALL),
+    field!("  arrangement", "[1 to 7]", "", 0; Form::Code(&ARRANGEMENTS), &ALL),
     field!("  conductor", "[1 to 8]", "", 0; Form::Code(&CONDUCTORS), &ALL),
-    field!("  f", "Hz", "frequency [10 to 65]", 2; Form::Plain, &ALL),
+    field!("  f", "Hz", "frequency [10 to 65]", 2; Form::Plain, &ALTERNATING),
     field!("  theta_c", "deg C", "conductor [40 to 250]", 2; Form::Signed, &ALL),
     field!("  theta_a", "deg C", "ambient [-40 to 60]", 2; Form::Signed, &ALL),
     field!("  R0", "uohm/m", "conductor, d.c., at 20 deg C [5 to 20000]", 3; Form::Plain, &ALL),
     field!("  dc", "mm", "conductor diameter [1 to 100]", 2; Form::Plain, &ALL),
-    field!("  s", "mm", "spacing of the axes [1 to 10000]", 2; Form::Plain, &ALL),
+    field!("  s", "mm", "spacing of the axes [1 to 10000]", 2; Form::Plain, &ALTERNATING),
     field!("  ds", "mm", "diameter over conductor screen [1 to 200]", 2; Form::Plain, &ALL),
     field!("  Di", "mm", "diameter over insulation [1 to 300]", 2; Form::Plain, &ALL),
     field!("  U0", "V", "voltage to earth [0 to 300000]", 0; Form::Plain, &ALL),
-    field!("  e", "", "relative permittivity [1 to 8]", 2; Form::Plain, &ALL),
-    field!("  t", "", "loss factor [0.00001 to 0.1]", 5; Form::Plain, &ALL),
-    field!("  d", "mm", "mean sheath diameter [1 to 500]", 2; Form::Plain, &ALL),
-    field!("  sheath", "[1 to 6]", "", 0; Form::Code(&METALS), &ALL),
-    field!("  Rs0", "uohm/m", "sheath, at 20 deg C [1 to 20000]", 3; Form::Plain, &ALL),
-    field!("  theta_s", "deg C", "sheath [-40 to 250]", 2; Form::Signed, &ALL),
+    field!("  e", "", "relative permittivity [1 to 8]", 2; Form::Plain, &ALTERNATING),
+    field!("  t", "", "loss factor [0.00001 to 0.1]", 5; Form::Plain, &ALTERNATING),
+    field!("  d", "mm", "mean sheath diameter [1 to 500]", 2; Form::Plain, &ALTERNATING),
+    field!("  sheath", "[1 to 6]", "", 0; Form::Code(&METALS), &ALTERNATING),
+    field!("  Rs0", "uohm/m", "sheath, at 20 deg C [1 to 20000]", 3; Form::Plain, &ALTERNATING),
+    field!("  theta_s", "deg C", "sheath [-40 to 250]", 2; Form::Signed, &ALTERNATING),
     field!("  armour", "[1 to 6]", "", 0; Form::Code(&METALS), &[SL_TYPE]),
     field!("  RA0", "uohm/m", "armour, a.c., at 20 deg C [1 to 20000]", 3; Form::Plain, &[SL_TYPE]),
     field!("  theta_A", "deg C", "armour [-40 to 250]", 2; Form::Signed, &[SL_TYPE]),

@@ -5,7 +5,7 @@
 use std::fmt::Display;
 use twin::cable::Cable;
 use twin::rating::{rate, value, Rated, Words, WIDTH};
-use twin::sample_cables::{COMMON_ALUMINIUM_SHEATH, COMMON_SHEATH, DRY_SOIL, IN_THE_SUN};
+use twin::sample_cables::{COMMON_ALUMINIUM_SHEATH, COMMON_SHEATH, DRY_SOIL, FEEDER, IN_THE_SUN};
 use twin::stages::{self, Insulation, Thermal, LN_2_HIGH, LN_2_LOW, MOIST, T};
 use twin::tables;
 use twin::whole::{down, up};
@@ -49,14 +49,19 @@ const FIELD_NAMES: [&str; WIDTH] = [
     "Q",
 ];
 
-const THERMAL: Thermal = Thermal {
-    t1: CASE[22] as u128,
-    t2: CASE[23] as u128,
-    t3: CASE[24] as u128,
-    t4: CASE[25] as u128,
-    soil_ratio: MOIST,
-    cores: 3,
-};
+const THERMAL: Thermal = thermal(&CASE, 3);
+
+/// T1 to T4 of a case in moist soil or in the sun.
+const fn thermal(case: &Words, cores: u128) -> Thermal {
+    Thermal {
+        t1: case[22] as u128,
+        t2: case[23] as u128,
+        t3: case[24] as u128,
+        t4: case[25] as u128,
+        soil_ratio: MOIST,
+        cores,
+    }
+}
 
 // The same cable in soil that dries out, for which stages 1 to 8 have the same numbers.
 const DRY_CASE: Words = DRY_SOIL;
@@ -268,6 +273,7 @@ struct Laid {
 const MOIST_SOIL: Laid = Laid { case: CASE, thermal: THERMAL, end: "" };
 const DRIED_SOIL: Laid = Laid { case: DRY_CASE, thermal: DRY_THERMAL, end: ".dry" };
 const SUN: Laid = Laid { case: IN_THE_SUN, thermal: THERMAL, end: ".sun" };
+const DIRECT: Laid = Laid { case: FEEDER, thermal: thermal(&FEEDER, 1), end: ".direct" };
 
 impl Laid {
     /// Shows a number and hands it on.
@@ -359,6 +365,19 @@ impl Laid {
         let n_left = self.show_rise_left(self.permitted_rise(), d0);
         self.show_current(n_left, e)
     }
+}
+
+/// The feeder with direct current: R is R', and the sun and the insulation heat nothing.
+fn show_direct_current() {
+    let rc = DIRECT.shown("R'", Cable::of(&FEEDER).rc);
+    let r = DIRECT.shown("R", rc);
+    let e = DIRECT.show_effective_resistance([r, 0, 0]);
+    let permitted = DIRECT.shown("P", DIRECT.permitted_rise());
+    let d0 = DIRECT.show_rise_without_current(0);
+    let n_left = DIRECT.shown("N", stages::rise_left(permitted, d0));
+    let current = DIRECT.show_current(n_left, e);
+    let sheet = [rc, 0, 0, 0, 0, 0, r, 0, 0, 0, 0, 0, e].map(|number: u128| number as u64);
+    assert_eq!(rate(&FEEDER), Rated { answer: 0, rating: current as u32, sheet });
 }
 
 fn show_cable() {
@@ -475,4 +494,5 @@ fn main() {
     show_single_core();
     show_common_aluminium_sheath();
     show_common_lead_sheath();
+    show_direct_current();
 }

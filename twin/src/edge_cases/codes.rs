@@ -3,8 +3,8 @@
 // do.
 
 use super::{Edge, Group};
-use crate::rating::{limits, Words};
-use crate::sample_cables::{with, ALL, COMMON_SHEATH, SL_TYPE, TREFOIL};
+use crate::rating::{limits, Words, DIRECT_CURRENT};
+use crate::sample_cables::{with, ALL, COMMON_SHEATH, FEEDER, SL_TYPE, TREFOIL};
 use crate::tables::{LEAD, STEEL};
 
 /// A code's word with its answer: `refusal` where it is none of 1 to `last`.
@@ -14,12 +14,13 @@ fn code(case: &Words, field: usize, word: u32, last: u32, refusal: u32) -> Edge 
 }
 
 pub fn arrangements() -> Group {
-    let single_core = (0..=4).map(|word| code(&TREFOIL, 0, word, 6, 1));
-    let armoured = [code(&SL_TYPE, 0, 5, 6, 1)];
-    let common_sheath = (6..=7).map(|word| code(&COMMON_SHEATH, 0, word, 6, 1));
+    let arrangement = |case, word| code(case, 0, word, DIRECT_CURRENT, 1);
+    let single_core = (0..=4).map(|word| arrangement(&TREFOIL, word));
+    let three_cores = [arrangement(&SL_TYPE, 5), arrangement(&COMMON_SHEATH, 6)];
+    let direct = (7..=8).map(|word| arrangement(&FEEDER, word));
     Group {
-        remark: "Arrangements 0 to 7.",
-        edges: single_core.chain(armoured).chain(common_sheath).collect(),
+        remark: "Arrangements 0 to 8.",
+        edges: single_core.chain(three_cores).chain(direct).collect(),
     }
 }
 
@@ -52,8 +53,8 @@ pub fn metals() -> Group {
 }
 
 /// A field that an arrangement does not have is stray whatever its value, within
-/// or outside the limits that it has in arrangement 5.
-fn stray_fields(cables: &[Words], fields: &[usize]) -> Vec<Edge> {
+/// or outside the limits that it has in others.
+pub fn stray_fields(cables: &[Words], fields: &[usize]) -> Vec<Edge> {
     let mut edges = Vec::new();
     for case in cables {
         for &field in fields {
@@ -73,10 +74,16 @@ pub fn stray() -> Group {
     edges.extend(stray_fields(&ALL[5..], &[17, 18, 19, 21]));
     let renumbered = [
         (&TREFOIL, 6, 3),
+        (&TREFOIL, 7, 4),
         (&SL_TYPE, 4, 4),
         (&SL_TYPE, 6, 4),
+        (&SL_TYPE, 7, 4),
         (&COMMON_SHEATH, 4, 4),
         (&COMMON_SHEATH, 5, 3),
+        (&COMMON_SHEATH, 7, 4),
+        (&FEEDER, 1, 3),
+        (&FEEDER, 5, 3),
+        (&FEEDER, 6, 3),
     ];
     edges.extend(
         renumbered.map(|(cable, word, answer)| Edge { case: with(cable, &[(0, word)]), answer }),

@@ -3,17 +3,18 @@
 
 use super::{Edge, Group};
 use crate::cable::Cable;
-use crate::rating::{limits, Words, CURRENT_LIMIT};
+use crate::rating::{has_field, limits, Words, CURRENT_LIMIT};
 use crate::sample_cables::{with, ALL};
 use crate::turning::first;
 
 /// How many mA on either side of the limit.
 const AROUND: i128 = 3;
 
-/// A cable that can carry 5000 A: hot, with a sheath of little loss, and with
-/// the lowest thermal resistances.
+/// A cable that can carry 5000 A: hot, with a sheath of little loss if it has any, and
+/// with the lowest thermal resistances.
 fn strong(cable: &Words) -> Words {
-    let hot = with(cable, &[(3, 25000), (10, 0), (15, 20_000_000)]);
+    let sheath = if has_field(cable, 15) { 20_000_000 } else { 0 };
+    let hot = with(cable, &[(3, 25000), (10, 0), (15, sheath)]);
     with(&hot, &[(22, 1000), (23, 0), (24, 0), (25, 10000)])
 }
 
@@ -32,16 +33,23 @@ fn at_current(cable: &Words, wanted: u128) -> Option<Words> {
     })
 }
 
-pub fn current() -> Group {
+/// The cable at and about the limit, in moist soil, in soil that dries out and in the sun.
+pub fn about_limit(cable: &Words) -> Vec<Edge> {
     let mut edges = Vec::new();
-    let dry = ALL.map(|cable| with(&cable, &[(27, 2500), (28, 6000)]));
-    let sunny = ALL.map(|cable| with(&cable, &[(29, 200_000)]));
-    for cable in ALL.into_iter().chain(dry).chain(sunny) {
+    for surroundings in [&[][..], &[(27, 2500), (28, 6000)], &[(29, 200_000)]] {
+        let cable = strong(&with(cable, surroundings));
         for distance in -AROUND..=AROUND {
             let wanted = CURRENT_LIMIT.saturating_add_signed(distance);
-            let case = at_current(&strong(&cable), wanted).expect("some ambient has the current");
+            let case = at_current(&cable, wanted).expect("some ambient has the current");
             edges.push(Edge { case, answer: if distance > 0 { 11 } else { 0 } });
         }
     }
-    Group { remark: "Currents from 4999997 to 5000003 mA.", edges }
+    edges
+}
+
+pub fn current() -> Group {
+    Group {
+        remark: "Currents from 4999997 to 5000003 mA.",
+        edges: ALL.iter().flat_map(about_limit).collect(),
+    }
 }

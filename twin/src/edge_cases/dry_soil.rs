@@ -6,13 +6,13 @@
 use super::dielectric::{at_distance, fine};
 use super::{Edge, Group};
 use crate::rating::Words;
-use crate::sample_cables::{with, ALL, LOW_VOLTAGE};
+use crate::sample_cables::{with, ALL, FEEDER, LOW_VOLTAGE};
 
 const LEAST: u32 = 1000;
 const HIGHEST: u32 = 5000;
 
 fn cables() -> impl Iterator<Item = Words> {
-    ALL.into_iter().chain([LOW_VOLTAGE])
+    ALL.into_iter().chain([LOW_VOLTAGE, FEEDER])
 }
 
 /// A temperature's word.

@@ -1,10 +1,11 @@
 // Every field from 2 to 26 at both of its limits, which pass refusal 3, and one
-// beyond; dry_soil.rs and sun.rs have those after them. The other fields are such that
-// the case at the limit is rated wherever it can be, so that a limit stated one off
-// changes the answer from a refusal to a rating or the other way round.
+// beyond; dry_soil.rs and sun.rs have those after them, and direct_current.rs those of
+// its arrangement. The other fields are such that the case at the limit is rated
+// wherever it can be, so that a limit stated one off changes the answer from a refusal
+// to a rating or the other way round.
 
 use super::{Edge, Group};
-use crate::rating::{armoured, limits as limits_of, Words};
+use crate::rating::{armoured, direct, has_field, limits as limits_of, Words};
 use crate::sample_cables::{with, COMMON_SHEATH, SL_TYPE, TREFOIL};
 
 #[derive(Clone, Copy)]
@@ -39,12 +40,13 @@ fn room(field: usize, end: End) -> &'static [(usize, u32)] {
 /// What a field at the end of its limits gets. Some can never be rated: dc is
 /// at least 100, so ds is too and Di, d and, but for a common sheath, s are at
 /// least 105; c is at least 100 and d or dA around the cores at most 50000, so dA
-/// is at least 200 and c at most 25000; and the SL cable's metals are lead and
-/// steel.
+/// is at least 200 and c at most 25000; the SL cable's metals are lead and steel;
+/// and direct current is rated up to 5000 V.
 fn answer_at(case: &Words, field: usize, end: End) -> u32 {
     match (field, end) {
         (7, Low) if case[0] == 6 => 0,
         (7 | 9 | 13, Low) | (20, High) | (21, Low) => 5,
+        (10, High) if direct(case) => 33,
         (14, High) if armoured(case) => 7,
         (17, Low) => 7,
         _ => 0,
@@ -55,7 +57,7 @@ fn answer_at(case: &Words, field: usize, end: End) -> u32 {
 fn at(cable: &Words, field: usize, end: End, value: i64) -> Words {
     let mut case = with(cable, room(field, end));
     // What the cable's arrangement does not have stays 0.
-    for absent in (17..=21).filter(|&index| cable[index] == 0) {
+    for absent in (0..case.len()).filter(|&index| !has_field(cable, index)) {
         case[absent] = 0;
     }
     // One below 0 is the highest word.
@@ -63,7 +65,7 @@ fn at(cable: &Words, field: usize, end: End, value: i64) -> Words {
     case
 }
 
-fn field_edges(cable: &Words, field: usize) -> [Edge; 4] {
+pub fn field_edges(cable: &Words, field: usize) -> [Edge; 4] {
     let (low, high) = limits_of(field);
     let limit = |end, value| Edge {
         case: at(cable, field, end, value),
@@ -73,14 +75,14 @@ fn field_edges(cable: &Words, field: usize) -> [Edge; 4] {
     [limit(Low, low), beyond(Low, low - 1), limit(High, high), beyond(High, high + 1)]
 }
 
-/// The single-core cable for the fields that every arrangement has, the SL cable
-/// for all, and the one with a common sheath for every arrangement's and c, which
+/// The single-core cable for the fields that all with alternating current have, the SL
+/// cable for every field, and the one with a common sheath for the former and c, which
 /// must not be 0 there.
 pub fn limits() -> Group {
-    let every_arrangements = || (2..=16).chain(22..=26);
-    let single_core = every_arrangements().flat_map(|field| field_edges(&TREFOIL, field));
+    let alternating = || (2..=16).chain(22..=26);
+    let single_core = alternating().flat_map(|field| field_edges(&TREFOIL, field));
     let armoured = (2..=26).flat_map(|field| field_edges(&SL_TYPE, field));
-    let with_c = every_arrangements().chain([20]);
+    let with_c = alternating().chain([20]);
     let common_sheath = with_c.flat_map(|field| field_edges(&COMMON_SHEATH, field));
     let without_c = Edge { case: with(&COMMON_SHEATH, &[(20, 0)]), answer: 3 };
     Group {

@@ -1,21 +1,23 @@
 // Cases in which two refusals hold at once, so that the earlier is answered:
-// every pair of refusals 1 to 11, 31 and 32, and every pair of those that a cable with
-// a common sheath can get. A test asks both tests by themselves.
+// every pair of refusals 1 to 11 and 31 to 33 but those of 33 with 7, 8 and 9, and every
+// pair of those that a cable with a common sheath can get and that one of direct current
+// can. A test asks both tests by themselves.
 //
 // Some pairs cannot hold as the documents state the tests, but the case is kept,
 // since the later test holds once the arrangement or the conductor code is put
 // right, and must not be tried before it is seen to be wrong:
-// 1 with 4, 7 and 9, which are stated for some of arrangements 1 to 6 only;
-// 1 with 11, as stage 7 is stated for arrangements 1 to 6;
+// 1 with 4, 7, 9 and 33, which are stated for some of arrangements 1 to 7 only;
+// 1 with 11, as E is stated for arrangements 1 to 7;
 // 2 with 8 and 11, as ks, kp and the temperature coefficient are for codes 1 to 8.
 // 3 by the loss voltage is not with 10 by the loss: beyond its limits it is above every
 // U0, so that the loss does not count. 4 by the isotherm is not with 31 and 32, which
-// ask for a v. 10 by the sun is not with 11: the thermal resistances by which a current
-// is too large leave the sun little.
+// ask for a v. 10 by the sun, and so 10 of direct current, is not with 11: the thermal
+// resistances by which a current is too large leave the sun little. 33 is of direct
+// current, for which 7, 8 and 9 are not tried.
 
 use super::{Edge, Group};
 use crate::rating::{holds, Words};
-use crate::sample_cables::{with, COMMON_SHEATH, SL_TYPE, TREFOIL_SINGLE_POINT};
+use crate::sample_cables::{with, COMMON_SHEATH, FEEDER, SL_TYPE, TREFOIL_SINGLE_POINT};
 
 type Changes = &'static [(usize, u32)];
 
@@ -25,7 +27,7 @@ type Bring = (u32, Changes);
 const COLD: u32 = (-4000i32) as u32;
 
 /// The order in which the refusals are tried, as document 02 has it.
-pub const ORDER: [u32; 13] = [1, 2, 3, 4, 5, 6, 31, 32, 7, 8, 9, 10, 11];
+pub const ORDER: [u32; 14] = [1, 2, 3, 4, 5, 6, 31, 32, 7, 33, 8, 9, 10, 11];
 
 fn place(refusal: u32) -> usize {
     ORDER.iter().position(|&number| number == refusal).expect("a refusal of a case")
@@ -35,7 +37,7 @@ fn place(refusal: u32) -> usize {
 /// chosen so that they hardly disturb one another. The pairs apply the later
 /// refusal's changes first, so 8's lower R0 stands over 11's.
 pub const BRINGS: [Bring; 13] = [
-    (1, &[(0, 7)]),
+    (1, &[(0, 8)]),
     (2, &[(1, 9)]),
     (3, &[(11, 801)]),
     (4, &[(17, 1)]),
@@ -63,7 +65,7 @@ const BY_CORE_OR_ARMOUR: [(u32, Changes, Changes); 4] = [
 /// any resistance, so that 7 and 9 cannot hold. 8's frequency and R0 stand over
 /// 11's.
 pub const COMMON_BRINGS: [Bring; 11] = [
-    (1, &[(0, 7)]),
+    (1, &[(0, 8)]),
     (2, &[(1, 9)]),
     (3, &[(11, 801)]),
     (4, &[(17, 1)]),
@@ -76,7 +78,36 @@ pub const COMMON_BRINGS: [Bring; 11] = [
     (11, &[(2, 1000), (4, COLD), (5, 5000), (15, 20_000_000), (22, 1000), (24, 0), (25, 10000)]),
 ];
 
-/// Other changes to it, by what arrangement 6 alone asks: limits of c but a dA of
+/// As BRINGS, for the feeder with direct current, which nothing but the sun can have
+/// refused by 10: MOST_SUN is for that.
+pub const DIRECT_BRINGS: [Bring; 10] = [
+    (1, &[(0, 8)]),
+    (2, &[(1, 9)]),
+    (3, &[(22, 999)]),
+    (4, &[(2, 5000)]),
+    (5, &[(6, 2631)]),
+    (6, &[(3, 4400), (4, 4000)]),
+    HOT_ISOTHERM,
+    SUN_ON_DRY_SOIL,
+    (33, &[(10, 5001)]),
+    (11, &[(5, 5000), (22, 1000), (23, 0), (24, 0), (25, 10000)]),
+];
+
+/// Other changes to it, by what arrangement 7 alone asks: fields that others have and
+/// that must be zero here, a sheath hotter than the conductor among them, and the last U0
+/// of its limits and one beyond.
+const DIRECT_OWN: [Bring; 8] = [
+    (3, &[(10, 300_001)]),
+    (4, &[(7, 1)]),
+    (4, &[(11, 801)]),
+    (4, &[(14, 3)]),
+    (4, &[(16, 9001)]),
+    (4, &[(20, 100)]),
+    (5, &[(9, 2761)]),
+    (33, &[(10, 300_000)]),
+];
+
+/// Other changes to COMMON_SHEATH, by what arrangement 6 alone asks: limits of c but a dA of
 /// 0, dc at most s, and 2c at most d.
 const COMMON_OWN: [Bring; 4] =
     [(3, &[(20, 99)]), (4, &[(21, 1)]), (5, &[(7, 1849)]), (5, &[(20, 3689)])];
@@ -116,7 +147,7 @@ const ALIKE: [(Bring, &[u32]); 9] = [
 ];
 
 /// Those of them that hold together, the earlier first.
-const ALIKE_PAIRS: [(Bring, Bring); 16] = [
+const ALIKE_PAIRS: [(Bring, Bring); 17] = [
     (LOSS_VOLTAGE, STRAY_ISOTHERM),
     (LOSS_VOLTAGE, COLD_ISOTHERM),
     (LOSS_VOLTAGE, SUN_ON_MOIST_SOIL),
@@ -132,13 +163,14 @@ const ALIKE_PAIRS: [(Bring, Bring); 16] = [
     (HEAT_BEYOND, MOST_SUN),
     (STRAY_ISOTHERM, MOST_SUN),
     (COLD_ISOTHERM, SUN_ON_MOIST_SOIL),
+    (COLD_ISOTHERM, MOST_SUN),
     (SUN_ON_MOIST_SOIL, MOST_SUN),
 ];
 
 /// A case, the cable that it was made of, and the two refusals that hold of it,
 /// the earlier first.
 pub struct Pair {
-    cable: Words,
+    pub cable: Words,
     pub case: Words,
     pub earlier: u32,
     pub later: u32,
@@ -202,9 +234,9 @@ fn pairs_with(cable: &Words, own: Bring, brings: &[Bring]) -> Vec<Pair> {
     others.map(in_order).collect()
 }
 
-/// Those of what arrangement 6 alone asks.
-fn common_own_pairs() -> Vec<Pair> {
-    COMMON_OWN.iter().flat_map(|&own| pairs_with(&COMMON_SHEATH, own, &COMMON_BRINGS)).collect()
+/// Those of what one arrangement alone asks.
+fn own_pairs(cable: &Words, own: &[Bring], brings: &[Bring]) -> Vec<Pair> {
+    own.iter().flat_map(|&own| pairs_with(cable, own, brings)).collect()
 }
 
 /// Those of the fields that all arrangements have alike, with each other and with a
@@ -224,7 +256,9 @@ pub fn all() -> Vec<Pair> {
     let mut pairs = every_pair(&TREFOIL_SINGLE_POINT, &BRINGS);
     pairs.extend(armour_pairs());
     pairs.extend(every_pair(&COMMON_SHEATH, &COMMON_BRINGS));
-    pairs.extend(common_own_pairs());
+    pairs.extend(own_pairs(&COMMON_SHEATH, &COMMON_OWN, &COMMON_BRINGS));
+    pairs.extend(every_pair(&FEEDER, &DIRECT_BRINGS));
+    pairs.extend(own_pairs(&FEEDER, &DIRECT_OWN, &DIRECT_BRINGS));
     pairs.extend(alike_pairs(&TREFOIL_SINGLE_POINT, &BRINGS));
     let by_core = BY_CORE_OR_ARMOUR.map(|(number, core, _)| (number, core));
     pairs.extend(pairs_with(&SL_TYPE, HOT_ISOTHERM, &by_core));
@@ -232,6 +266,7 @@ pub fn all() -> Vec<Pair> {
     pairs.extend(pairs_with(&SL_TYPE, SUN_ON_DRY_SOIL, &brings));
     pairs.extend(alike_pairs(&SL_TYPE, &brings));
     pairs.extend(alike_pairs(&COMMON_SHEATH, &COMMON_BRINGS));
+    pairs.extend(alike_pairs(&FEEDER, &DIRECT_BRINGS));
     pairs
 }
 

@@ -5,12 +5,16 @@
 use super::dielectric::{at_distance, fine};
 use super::{Edge, Group};
 use crate::rating::{limits, value, Words};
-use crate::sample_cables::{with, ALL, LOW_VOLTAGE, ON_A_BRIDGE};
+use crate::sample_cables::{with, ALL, FEEDER, LOW_VOLTAGE, ON_A_BRIDGE};
 
 const HIGHEST: u32 = 200_000;
 
-fn cables() -> impl Iterator<Item = Words> {
+fn alternating() -> impl Iterator<Item = Words> {
     ALL.into_iter().chain([LOW_VOLTAGE])
+}
+
+fn cables() -> impl Iterator<Item = Words> {
+    alternating().chain([FEEDER])
 }
 
 fn sun(cable: &Words, heat: u32) -> Words {
@@ -97,24 +101,26 @@ fn lossless(cable: &Words) -> Words {
     with(cable, &[(26, cable[10] + 1)])
 }
 
-/// Cables without a dielectric loss whose rise by the sun is at nine tenths of the
+/// The cable without a dielectric loss whose rise by the sun is at nine tenths of the
 /// permitted rise, or so far above: of the largest heat below the highest, so that one
 /// more is within its limit, with which some T4 makes it. The ambient is the coldest
 /// from the cable's own on at which there is one.
-pub fn alone(distance: i64) -> Vec<Words> {
+pub fn heated(cable: &Words, distance: i64) -> Words {
     let (low, high) = limits(25);
-    let at_ambient = |cable: &Words, ambient: i64| {
+    let at_ambient = |ambient: i64| {
         let rise = 9_000_000 * (value(cable, 3) - ambient) + distance;
         let divides = |heat: &i64| rise % heat == 0 && (low..=high).contains(&(rise / heat));
         let heat = (1..i64::from(HIGHEST)).rev().find(divides)?;
         let changes = [(4, ambient), (25, rise / heat), (29, heat)];
         Some(with(&lossless(cable), &changes.map(|(field, value)| (field, value as u32))))
     };
-    let nearest = |cable: Words| {
-        let mut ambients = value(&cable, 4)..=limits(4).1;
-        ambients.find_map(|ambient| at_ambient(&cable, ambient)).expect("some ambient has it")
-    };
-    cables().map(nearest).collect()
+    let mut ambients = value(cable, 4)..=limits(4).1;
+    ambients.find_map(at_ambient).expect("some ambient has it")
+}
+
+/// So each cable with alternating current.
+pub fn alone(distance: i64) -> Vec<Words> {
+    alternating().map(|cable| heated(&cable, distance)).collect()
 }
 
 /// At equality, and with the heat or T4 one less or one more; with the loss, which is
@@ -199,8 +205,8 @@ pub fn ends() -> Group {
     for cable in cables() {
         let cable = lossless(&cable);
         let hot = with(&cable, &[(3, 25000), (4, -4000i32 as u32)]);
-        let armour = cable[19].min(4000);
-        let cold = with(&cable, &[(3, 4500), (4, 4000), (16, 4000), (19, armour)]);
+        let [sheath, armour] = [16, 19].map(|field| cable[field].min(4000));
+        let cold = with(&cable, &[(3, 4500), (4, 4000), (16, sheath), (19, armour)]);
         for (cable, places) in [(hot, HOTTEST), (cold, COLDEST)] {
             edges.extend(places.map(|(t4, heat, answer)| Edge {
                 case: with(&cable, &[(25, t4), (29, heat)]),

@@ -6,7 +6,9 @@ use twin::drawn_cases::{disturb, sound_case};
 use twin::edge_cases::common_sheath::{with_sheath, NEAREST};
 use twin::edge_cases::pairs::ORDER;
 use twin::rating::{dry_soil, in_the_sun, rate, Rated, Words};
-use twin::sample_cables::{with, ALL, DRY_SOIL, IN_THE_SUN, LOW_VOLTAGE};
+use twin::sample_cables::{
+    with, ALL, DRY_SOIL, FEEDER, FEEDER_ALTERNATING, IN_THE_SUN, LOW_VOLTAGE,
+};
 use twin::standard::Cable;
 
 /// The float rating less the whole one, in mA. The whole one is cautious: it
@@ -29,8 +31,10 @@ fn relative_gap(case: &Words, rated: &Rated) -> f64 {
     (1.0 - amperes / Cable::from_fields(case).rating()).abs()
 }
 
-/// Variations every arrangement can bear.
-const VARIATIONS: [&[(usize, u32)]; 18] = [
+type Changes = &'static [(usize, u32)];
+
+/// Variations every arrangement with alternating current can bear.
+const VARIATIONS: [Changes; 18] = [
     &[],
     &[(2, 6000)],
     &[(2, 1667), (4, 0)],
@@ -65,6 +69,36 @@ fn real_cases_agree() {
     println!("real cases: largest shortfall {largest} mA");
 }
 
+/// Variations that a cable of direct current can bear.
+const DIRECT_VARIATIONS: [Changes; 14] = [
+    &[],
+    &[(1, 1)],
+    &[(1, 3), (4, 0)],
+    &[(1, 5), (5, 60500)],
+    &[(1, 8), (4, (-2000i32) as u32)],
+    &[(10, 0)],
+    &[(10, 5000), (23, 90_000)],
+    &[(26, 300_000)],
+    &[(27, 1000), (28, 6000)],
+    &[(27, 2500), (28, 3500)],
+    &[(27, 5000), (28, 7000)],
+    &[(4, (-2000i32) as u32), (27, 3333), (28, (-100i32) as u32)],
+    &[(25, 400_000), (29, 16_000)],
+    &[(25, 220_000), (29, 200_000)],
+];
+
+#[test]
+fn real_cases_of_direct_current_agree() {
+    for changes in DIRECT_VARIATIONS {
+        let case = with(&FEEDER, changes);
+        let rated = rate(&case);
+        assert_eq!(rated.answer, 0, "{case:?}");
+        shortfall(&case, &rated);
+    }
+    let amperes = [FEEDER, FEEDER_ALTERNATING].map(|case| Cable::from_fields(&case).rating());
+    assert_eq!(amperes.map(|amperes| format!("{amperes:.3}")), ["866.734", "795.388"]);
+}
+
 /// A common sheath's two formulas are far apart where one takes over from the
 /// other: there the float must take the one that the whole numbers take.
 #[test]
@@ -82,10 +116,10 @@ fn rolled_cases_agree() {
     let mut dice = Dice(0x60287);
     let mut largest = 0f64;
     let mut widest = 0f64;
-    let mut rated_cases = [0; 6];
-    let mut dry_cases = [0; 6];
-    let mut sunny_cases = [0; 6];
-    let mut refused = [0; 33];
+    let mut rated_cases = [0; 7];
+    let mut dry_cases = [0; 7];
+    let mut sunny_cases = [0; 7];
+    let mut refused = [0; 34];
     for _ in 0..40_000 {
         let case = sound_case(&mut dice);
         let rated = rate(&case);
@@ -115,7 +149,7 @@ fn rolled_cases_agree() {
 fn sheets_agree() {
     let without_loss = ALL.map(|case| with(&case, &[(26, case[10] + 1)]));
     let at_u0 = ALL.map(|case| with(&case, &[(26, case[10])]));
-    let others = [LOW_VOLTAGE, DRY_SOIL, IN_THE_SUN];
+    let others = [LOW_VOLTAGE, DRY_SOIL, IN_THE_SUN, FEEDER_ALTERNATING];
     for case in [ALL, without_loss, at_u0].into_iter().flatten().chain(others) {
         let sheet = rate(&case).sheet.map(|number| number as f64);
         let cable = Cable::from_fields(&case);
@@ -139,6 +173,19 @@ fn sheets_agree() {
             let gap = (sheet[index] - float).abs();
             assert!(gap <= 5.0 + 1e-8 * float, "{case:?} {index}: {} {float}", sheet[index]);
         }
+    }
+}
+
+#[test]
+fn sheets_of_direct_current_have_three_numbers() {
+    for changes in DIRECT_VARIATIONS {
+        let case = with(&FEEDER, changes);
+        let sheet = rate(&case).sheet;
+        let float = 1e16 * Cable::from_fields(&case).dc_resistance();
+        assert!((sheet[0] as f64 - float).abs() <= 5.0 + 1e-8 * float, "{case:?} {float}");
+        let e = sheet[12];
+        assert_eq!(sheet, [sheet[0], 0, 0, 0, 0, 0, sheet[0], 0, 0, 0, 0, 0, e]);
+        assert!(e > 0);
     }
 }
 

@@ -2,15 +2,17 @@
 // that they write and what they read.
 
 use twin::book::{
-    accept, append, case_of, put_word, read, start, Layout, Parts, ANSWER, LAYOUTS, RATING, RBK1,
-    RBK2, RECORD_LENGTH, TRAILER_LENGTH,
+    accept, append, case_of, put_word, read, start, Parts, ANSWER, LAYOUTS, RATING, RBK1, RBK2,
+    RECORD_LENGTH, TRAILER_LENGTH,
 };
 use twin::dice::Dice;
 use twin::drawn_books::{drawn_book, KINDS};
 use twin::listing::{listing, LONGEST_BOOK};
 use twin::rating::{rate, Words};
-use twin::sample_cables::{with, ALL, DRY_SOIL, IN_THE_SUN, LOW_VOLTAGE, SL_TYPE, TREFOIL};
-use twin::sound_books::{big_endian, sound_book, sound_book_of};
+use twin::sample_cables::{
+    with, ALL, COMMON_SHEATH, DRY_SOIL, FEEDER, IN_THE_SUN, LOW_VOLTAGE, SL_TYPE, TREFOIL,
+};
+use twin::sound_books::{big_endian, kept, sound_book, sound_book_of};
 
 pub const ZEROS: Words = [0; 30];
 pub const NOTE: &[u8] = b"RBK1 and RBK2 of the harbour line";
@@ -77,6 +79,61 @@ fn an_older_book_of_two_byte_for_byte() {
     assert_eq!(read(&book, book.len(), 0).expect("a record")[..], record);
 }
 
+/// Direct current came after RBK1, so that it is refused by 1 there; a common sheath is
+/// rated there.
+#[test]
+fn books_of_direct_current_byte_for_byte() {
+    let mut older = big_endian(&FEEDER[..26]);
+    older.extend(big_endian(&[1, 0]));
+    older.extend(big_endian(&COMMON_SHEATH[..26]));
+    older.extend(big_endian(&[0, 469_955]));
+    older.extend(b"RBK1\0\0\0\x02\0\0\0\xe0\0\0\0\x70");
+    assert_eq!(sound_book_of(RBK1, &[], &[FEEDER, COMMON_SHEATH]), older);
+    assert_eq!(listed(&older), "book 2\n1 1 0\n2 0 469955\n");
+    let mut book = big_endian(&FEEDER);
+    book.extend(big_endian(&[0, 866_734]));
+    book.extend(b"RBK2\0\0\0\x01\0\0\0\x80\0\0\0\x80");
+    assert_eq!(sound_book(&[], &[FEEDER]), book);
+    assert_eq!(listed(&book), "book 1\n1 0 866734\n");
+}
+
+/// The rating of the other mark's rule is what a record of direct current must not have.
+#[test]
+fn direct_current_has_each_marks_own_answer() {
+    for (layout, answer, rating) in [(RBK1, 0, 866_734), (RBK2, 1, 0)] {
+        for cases in [vec![FEEDER], vec![SL_TYPE, FEEDER, COMMON_SHEATH]] {
+            let mut book = sound_book_of(layout, NOTE, &cases);
+            let index = cases.iter().position(|case| *case == FEEDER).expect("the feeder");
+            let record = NOTE.len() + layout.record_length() * index;
+            put_word(&mut book, record + 4 * layout.inputs, answer);
+            put_word(&mut book, record + 4 * layout.inputs + 4, rating);
+            assert_eq!(listed(&book), format!("refused 23 at {}\n", index + 1));
+            let read = read(&book, book.len(), index).expect("a record");
+            assert_eq!((read[ANSWER], read[RATING]), (answer, rating));
+        }
+    }
+}
+
+/// Whatever else a record of direct current has in an older book, the answer is 1, and
+/// what comes after arrangement 7 has it in either.
+#[test]
+fn older_books_have_direct_current_refused_by_its_arrangement() {
+    let changes: [&[(usize, u32)]; 5] = [&[], &[(1, 9)], &[(2, 5000)], &[(10, 5001)], &[(0, 8)]];
+    for changes in changes {
+        let case = with(&FEEDER, changes);
+        let book = sound_book_of(RBK1, &[], &[case]);
+        let record = read(&book, book.len(), 0).expect("a record");
+        assert_eq!((case_of(&record), record[ANSWER], record[RATING]), (case, 1, 0));
+        assert!(accept(&book, book.len()).is_ok());
+    }
+    assert_eq!(RBK2.rate(&with(&FEEDER, &[(0, 8)])).answer, 1);
+    for layout in LAYOUTS {
+        for case in ALL {
+            assert_eq!(layout.rate(&case), rate(&case));
+        }
+    }
+}
+
 #[test]
 fn start_writes_sixteen_bytes_after_the_note() {
     let mut buffer = [0xaa; 40];
@@ -93,7 +150,8 @@ fn start_writes_sixteen_bytes_after_the_note() {
 fn cases() -> Vec<Words> {
     let soil_and_sun = [with(&DRY_SOIL, &[(28, 8501)]), with(&DRY_SOIL, &[(29, 1)])];
     let refused = [with(&TREFOIL, &[(14, 7)]), ZEROS, [u32::MAX; 30]];
-    [ALL.as_slice(), &soil_and_sun, &refused, &[LOW_VOLTAGE, DRY_SOIL, IN_THE_SUN]].concat()
+    let others = [FEEDER, LOW_VOLTAGE, DRY_SOIL, IN_THE_SUN];
+    [ALL.as_slice(), &soil_and_sun, &refused, &others].concat()
 }
 
 #[test]
@@ -114,13 +172,6 @@ fn append_writes_a_record_and_a_trailer() {
     assert_eq!(buffer[used + RECORD_LENGTH..], before[used + RECORD_LENGTH..]);
 }
 
-/// The case that a record of a layout keeps of another: its first inputs.
-fn kept(layout: Layout, case: &Words) -> Words {
-    let mut kept = *case;
-    kept[layout.inputs..].fill(0);
-    kept
-}
-
 #[test]
 fn cases_read_back() {
     for layout in LAYOUTS {
@@ -128,7 +179,7 @@ fn cases_read_back() {
         for (index, case) in cases().iter().enumerate() {
             let case = kept(layout, case);
             let record = read(&book, book.len(), index).expect("below the count");
-            let rated = rate(&case);
+            let rated = layout.rate(&case);
             assert_eq!(case_of(&record), case);
             assert_eq!((record[ANSWER], record[RATING]), (rated.answer, rated.rating));
         }

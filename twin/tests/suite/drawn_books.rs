@@ -1,14 +1,15 @@
 // The books of make-books: what each kind is made for, it must bring about.
 
-use twin::book::{accept, append, case_of, read, Refusal, ANSWER, LAYOUTS, RATING};
+use twin::book::{accept, append, case_of, read, Refusal, ANSWER, LAYOUTS, RATING, RBK2};
 use twin::dice::Dice;
 use twin::drawn_books::{drawn_book, KINDS};
 use twin::edge_cases::pairs::ORDER;
 use twin::listing::listing;
-use twin::rating::rate;
 
 /// The first kinds are sound books.
 const SOUND_KINDS: usize = 9;
+/// The place of the kind in which direct current has the other mark's answer.
+const BY_OTHER_RULE: usize = 14;
 const TURNS: usize = 48;
 
 fn drawn_books(seed: u64) -> Vec<Vec<u8>> {
@@ -90,7 +91,7 @@ fn either_mark_gets_every_refusal() {
 
 #[test]
 fn records_of_every_answer_appear() {
-    let mut answers = [0; 33];
+    let mut answers = [0; 34];
     let (mut rated_in_dry_soil, mut rated_in_the_sun) = (0, 0);
     for book in drawn_books(2) {
         let Ok(parts) = accept(&book, book.len()) else { continue };
@@ -101,13 +102,70 @@ fn records_of_every_answer_appear() {
             rated_in_the_sun += usize::from(record[ANSWER] == 0 && record[29] != 0);
         }
     }
-    println!("answers 0 to 32 {answers:?}");
+    println!("answers 0 to 33 {answers:?}");
     println!("{rated_in_dry_soil} rated in dry soil, {rated_in_the_sun} in the sun");
     assert!(answers[0] > 0 && ORDER.iter().all(|&number| answers[number as usize] > 0));
     // Half of the books are older and have none, and a good half of the others' cases
     // are in moist soil, of which half are in the sun.
     assert!(rated_in_dry_soil > answers[0] / 8);
     assert!(rated_in_the_sun > answers[0] / 16);
+}
+
+/// Direct current in accepted books: in RBK1 refused by 1, though it could be rated, in
+/// RBK2 rated and refused by its own refusal; and a common sheath is rated in both.
+#[test]
+fn direct_current_appears_by_each_marks_rule() {
+    let mut answers = [[0; 34]; 2];
+    let mut could_be_rated = 0;
+    let mut common_sheaths_rated = [0; 2];
+    for book in drawn_books(9) {
+        let Ok(parts) = accept(&book, book.len()) else { continue };
+        let mark = mark_of(&book).expect("a mark");
+        for index in 0..parts.count {
+            let record = read(&book, book.len(), index).expect("below the count");
+            let answer = record[ANSWER];
+            match record[0] {
+                6 => common_sheaths_rated[mark] += usize::from(answer == 0),
+                7 => {
+                    answers[mark][answer as usize] += 1;
+                    could_be_rated +=
+                        usize::from(answer == 1 && RBK2.rate(&case_of(&record)).answer == 0);
+                }
+                _ => {}
+            }
+        }
+    }
+    println!("of direct current in either mark {answers:?}, {could_be_rated} of RBK1 can be rated");
+    let [older, newer] = answers;
+    assert_eq!(older[1], older.iter().sum());
+    assert!(older[1] > 500 && could_be_rated > 200);
+    assert_eq!(newer[1], 0);
+    assert!(newer[0] > 200 && newer[33] > 20, "{newer:?}");
+    assert!(common_sheaths_rated.iter().all(|&count| count > 100), "{common_sheaths_rated:?}");
+}
+
+/// Books of direct current are refused where a record has the other mark's answer: in
+/// RBK1 it claims a rating, and in RBK2 that it is refused by 1.
+#[test]
+fn direct_current_by_the_other_rule_disagrees() {
+    let mut claims = [[0; 2]; 2];
+    for (number, book) in drawn_books(10).iter().enumerate() {
+        if number % KINDS.len() != BY_OTHER_RULE {
+            continue;
+        }
+        let Err(Refusal::Disagrees(named)) = accept(book, book.len()) else {
+            panic!("{number} is accepted")
+        };
+        let record = read(book, book.len(), named - 1).expect("below the count");
+        let mark = mark_of(book).expect("a mark");
+        assert_eq!((record[0], record[ANSWER] == 1), (7, mark == 1), "{number}");
+        claims[mark][usize::from(record[RATING] > 0)] += 1;
+    }
+    println!("of either mark, without a rating and with one: {claims:?}");
+    assert!(
+        claims[0][1] > TURNS / 5 && claims[1][0] > TURNS / 5 && claims[1][1] == 0,
+        "{claims:?}"
+    );
 }
 
 #[test]
@@ -129,16 +187,17 @@ fn every_record_of_a_book_can_be_the_one_that_disagrees() {
     assert!(records.len() > 5 && records[0] == 1, "{records:?}");
 }
 
-/// Of the books in which several records disagree, as the rater says of each
+/// Of the books in which several records disagree, as the mark's rule says of each
 /// record by itself, every one is refused at the first of these.
 #[test]
 fn the_first_of_several_is_named() {
     let mut several = 0;
     for book in drawn_books(6) {
         let Err(Refusal::Disagrees(named)) = accept(&book, book.len()) else { continue };
+        let layout = LAYOUTS[mark_of(&book).expect("a mark")];
         let disagrees = |index: &usize| {
             let record = read(&book, book.len(), *index).expect("below the count");
-            let rated = rate(&case_of(&record));
+            let rated = layout.rate(&case_of(&record));
             (record[ANSWER], record[RATING]) != (rated.answer, rated.rating)
         };
         let count = (0..).take_while(|&index| read(&book, book.len(), index).is_ok()).count();

@@ -1,14 +1,16 @@
 // What the cases reach that twin/check draws with seed 1: every answer, both
 // sides of 5000 A, both sides of the skin effect's limit by ks and by kp, and what
-// a common sheath alone has.
+// a common sheath and direct current alone have.
 
 use twin::cable::Cable;
 use twin::dice::Dice;
 use twin::drawn_cases::drawn_case;
+use twin::edge_cases::direct_current::ALWAYS_ZERO;
 use twin::edge_cases::pairs::ORDER;
 use twin::rating::{
-    dry_soil, in_the_sun, loss_counts, rate, value, Words, CURRENT_LIMIT, SKIN_LIMIT,
+    dry_soil, holds, in_the_sun, loss_counts, rate, value, Words, CURRENT_LIMIT, SKIN_LIMIT,
 };
+use twin::sample_cables::with;
 use twin::stages::LARGEST_RS_OF_SUM;
 
 const DRAWN: usize = 100_000;
@@ -28,11 +30,11 @@ fn nearest(numbers: impl Iterator<Item = u128>, limit: u128) -> u128 {
 
 #[test]
 fn every_answer_occurs() {
-    let mut answers = [0; 33];
+    let mut answers = [0; 34];
     for (_, answer) in drawn() {
         answers[answer as usize] += 1;
     }
-    println!("answers 0 to 32 of {DRAWN} drawn cases: {answers:?}");
+    println!("answers 0 to 33 of {DRAWN} drawn cases: {answers:?}");
     let few = |answer: &u32| answers[*answer as usize] <= DRAWN / 1000;
     assert!(![0].iter().chain(&ORDER).any(few), "{answers:?}");
 }
@@ -92,7 +94,7 @@ fn dry_soils_about_their_limits_occur() {
         ("θx below zero", |case| dry_soil(case) && value(case, 28) < 0),
     ];
     for (name, place) in places {
-        for (answer, least) in [(0, DRAWN / 100), (10, DRAWN / 100), (11, DRAWN / 1000)] {
+        for (answer, least) in [(0, DRAWN / 100), (10, DRAWN / 200), (11, DRAWN / 1000)] {
             let given = count(&drawn, |case, given| given == answer && place(case));
             println!("{name} in {given} cases of answer {answer}");
             assert!(given > least, "{name}, {answer}: {given}");
@@ -247,7 +249,7 @@ fn common_sheaths_get_every_answer_they_can() {
         assert!(given > cases.len() / 500, "{answer}: {given}");
     }
     assert_eq!(count(&cases, |_, given| [1, 7, 9].contains(&given)), 0);
-    let past_the_last = count(&drawn(), |case, answer| case[0] == 7 && answer == 1);
+    let past_the_last = count(&drawn(), |case, answer| case[0] == 8 && answer == 1);
     assert!(past_the_last > 20, "{past_the_last}");
 }
 
@@ -267,6 +269,62 @@ fn common_sheaths_reach_what_only_they_ask() {
     }
     for (c, answer) in [(99, 3), (100, 0), (50000, 5), (50001, 3)] {
         assert!(count(&cases, |case, given| case[20] == c && given == answer) > 3, "{c}");
+    }
+}
+
+/// The cases of arrangement 7 with their answers.
+fn drawn_direct_currents() -> Vec<(Words, u32)> {
+    drawn().into_iter().filter(|(case, _)| case[0] == 7).collect()
+}
+
+#[test]
+fn direct_currents_get_every_answer_they_can() {
+    let cases = drawn_direct_currents();
+    for answer in [0, 2, 3, 4, 5, 6, 31, 32, 33, 10, 11] {
+        let given = count(&cases, |_, given| given == answer);
+        println!("answer {answer}: {given} of {} of direct current", cases.len());
+        assert!(given > cases.len() / 200, "{answer}: {given}");
+    }
+    assert_eq!(count(&cases, |_, given| [1, 7, 8, 9].contains(&given)), 0);
+}
+
+#[test]
+fn direct_currents_about_their_limits_occur() {
+    let cases = drawn_direct_currents();
+    let places: [(u32, Place); 14] = [
+        (0, ("U0 4999", |case| case[10] == 4999)),
+        (0, ("U0 5000", |case| case[10] == 5000)),
+        (33, ("U0 5001", |case| case[10] == 5001)),
+        (33, ("U0 300000", |case| case[10] == 300_000)),
+        (0, ("dc at ds", |case| case[6] == case[8])),
+        (5, ("dc above ds", |case| case[6] == case[8] + 1)),
+        (0, ("Di at its least", |case| case[9] == (105 * case[8]).div_ceil(100))),
+        (5, ("Di one below", |case| case[9] + 1 == (105 * case[8]).div_ceil(100))),
+        (0, ("a rise of 5 K", |case| value(case, 3) - value(case, 4) == 500)),
+        (6, ("a rise of 4.99 K", |case| value(case, 3) - value(case, 4) == 499)),
+        (0, ("U0 below the loss voltage", |case| case[10] < case[26])),
+        (0, ("U0 above the loss voltage", |case| case[10] > case[26])),
+        (0, ("the sun", in_the_sun)),
+        (0, ("dry soil", dry_soil)),
+    ];
+    for (answer, (name, place)) in places {
+        let given = count(&cases, |case, given| given == answer && place(case));
+        println!("{name} in {given} cases of answer {answer}");
+        assert!(given > 20, "{name}, {answer}: {given}");
+    }
+    // Only the sun can bring about 10.
+    assert_eq!(count(&cases, |case, given| given == 10 && !in_the_sun(case)), 0);
+}
+
+/// Each field that direct current does not have is the only stray one in some.
+#[test]
+fn each_stray_field_of_direct_current_occurs_by_itself() {
+    let cases = drawn_direct_currents();
+    for field in ALWAYS_ZERO {
+        let alone = |case: &Words| case[field] != 0 && !holds(4, &with(case, &[(field, 0)]));
+        let given = count(&cases, |case, given| given == 4 && alone(case));
+        println!("field {field} by itself in {given} cases of answer 4");
+        assert!(given > 20, "{field}: {given}");
     }
 }
 

@@ -7,7 +7,7 @@ use twin::edge_cases::pairs::{all, Pair, ORDER};
 use twin::edge_cases::skin::{with_skin, Nearest, NEAREST};
 use twin::edge_cases::{groups, Edge};
 use twin::rating::{rate, SKIN_LIMIT};
-use twin::sample_cables::TREFOIL;
+use twin::sample_cables::{FEEDER, TREFOIL};
 use twin::stages::{skin_argument, skin_reactance, temperature_factor};
 use twin::tables::{
     conductor_coefficient, metal_coefficient, proximity_coefficient, skin_coefficient,
@@ -31,18 +31,39 @@ fn both_refusals_of_a_pair_hold() {
     }
 }
 
+/// What is not tried in the arrangement that alone 33 is for.
+const NOT_WITH_DIRECT_CURRENT: [u32; 3] = [7, 8, 9];
+
 /// Every two of the refusals, in the order in which they are tried.
 #[test]
 fn every_pair_of_refusals_is_among_them() {
-    assert_eq!(ORDER, [1, 2, 3, 4, 5, 6, 31, 32, 7, 8, 9, 10, 11]);
+    assert_eq!(ORDER, [1, 2, 3, 4, 5, 6, 31, 32, 7, 33, 8, 9, 10, 11]);
     let pairs = all();
     for (place, earlier) in ORDER.iter().enumerate() {
         for later in &ORDER[place + 1..] {
             let found = pairs.iter().any(|pair| (pair.earlier, pair.later) == (*earlier, *later));
-            assert!(found, "{earlier} and {later}");
+            let other = if *later == 33 { earlier } else { later };
+            let apart = [*earlier, *later].contains(&33) && NOT_WITH_DIRECT_CURRENT.contains(other);
+            assert_eq!(found, !apart, "{earlier} and {later}");
         }
     }
     assert!(pairs.iter().all(|pair| ORDER.contains(&pair.earlier) && ORDER.contains(&pair.later)));
+}
+
+/// Every two of those that direct current can get, but 10 with 11, which the sun keeps
+/// apart.
+#[test]
+fn every_pair_of_direct_currents_refusals_is_among_them() {
+    let pairs = all();
+    let own = |number: &&u32| !NOT_WITH_DIRECT_CURRENT.contains(number);
+    let order: Vec<u32> = ORDER.iter().filter(own).copied().collect();
+    for (place, earlier) in order.iter().enumerate() {
+        for later in &order[place + 1..] {
+            let of_both = |pair: &&Pair| (pair.earlier, pair.later) == (*earlier, *later);
+            let found = pairs.iter().filter(of_both).any(|pair| pair.cable == FEEDER);
+            assert_eq!(found, (*earlier, *later) != (10, 11), "{earlier} and {later}");
+        }
+    }
 }
 
 /// How far a z lies above the limit of refusal 8.

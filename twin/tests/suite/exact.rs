@@ -14,8 +14,8 @@ use twin::margins::{distance_under_line, margins, margins_at, Margins};
 use twin::published::published;
 use twin::rating::{dry_soil, in_the_sun, rate, Rated, Words};
 use twin::sample_cables::{
-    with, ALL, COMMON_SHEATH, DRY_SOIL, FLAT, IN_THE_SUN, LOW_VOLTAGE, ON_A_BRIDGE, SL_TYPE,
-    TREFOIL, TREFOIL_SINGLE_POINT,
+    with, ALL, COMMON_SHEATH, DRY_SOIL, FEEDER, FEEDER_ALTERNATING, FLAT, IN_THE_SUN, LOW_VOLTAGE,
+    ON_A_BRIDGE, SL_TYPE, TREFOIL, TREFOIL_SINGLE_POINT,
 };
 use twin::standard::Cable;
 
@@ -29,7 +29,7 @@ fn drawn_cases(seed: u64, count: usize) -> impl Iterator<Item = (Words, Rated)> 
 #[test]
 fn both_bounds_hold_at_every_combination_of_ends() {
     let mut all = Margins::none();
-    let mut arrangements = [0; 6];
+    let mut arrangements = [0; 7];
     let (mut dry, mut sunny) = (0, 0);
     for (case, rated) in drawn_cases(0x1e0c, 600) {
         let margins = margins(&case, &rated);
@@ -66,8 +66,14 @@ fn both_bounds_hold_between_the_ends() {
 
 #[test]
 fn combinations_are_of_the_numbers_that_enter() {
-    let counts =
-        [(TREFOIL, 8), (FLAT, 16), (TREFOIL_SINGLE_POINT, 4), (SL_TYPE, 8), (COMMON_SHEATH, 4)];
+    let counts = [
+        (TREFOIL, 8),
+        (FLAT, 16),
+        (TREFOIL_SINGLE_POINT, 4),
+        (SL_TYPE, 8),
+        (COMMON_SHEATH, 4),
+        (FEEDER, 1),
+    ];
     for (case, count) in counts {
         let ends = Ends::of(&case);
         let combinations = ends.combinations();
@@ -190,6 +196,34 @@ fn the_exact_rise_counts_the_sun_as_the_rating_does() {
     // Neither rating is one of the other: each breaks a bound there.
     assert!(margins(&IN_THE_SUN, &rate(&SL_TYPE)).is_none());
     assert!(margins(&SL_TYPE, &rate(&IN_THE_SUN)).is_none());
+}
+
+/// Of direct current no fraction is chosen. E in tenths of a unit and in ten-thousandths
+/// was worked out apart from this package.
+#[test]
+fn the_exact_rise_of_direct_current_rests_on_no_chosen_fraction() {
+    let dry = with(&FEEDER, &[(27, 2500), (28, 3500)]);
+    let sunny = with(&FEEDER, &[(25, 400_000), (29, 16_000)]);
+    let bedded = with(&dry, &[(23, 40_001), (27, 2501)]);
+    let exact = [
+        (FEEDER, Fraction::new(9_318_069_997_704, 10), 0),
+        (dry, Fraction::new(21_858_832_644_543, 10), 0),
+        (sunny, Fraction::new(2_824_307_966_478, 10), 6_400_000_000),
+        (bedded, Fraction::new(22_053_872_459_840_226, 10_000), 0),
+    ];
+    for (case, e, rise) in exact {
+        let [chosen] = &Ends::of(&case).combinations()[..] else { panic!("{case:?}") };
+        assert_eq!((&chosen.pi, &chosen.ln_2), (&None, &None));
+        assert_eq!((&chosen.spacing_log, &chosen.insulation_log), (&None, &None));
+        let heating = Heating::of(&case, chosen);
+        assert_eq!(heating.e, e);
+        assert!(heating.dd.is_zero());
+        assert_eq!(heating.rise(0), Fraction::whole(rise));
+        assert!(margins(&case, &rate(&case)).is_some(), "{case:?}");
+    }
+    assert_eq!(permitted_rise(&dry), Fraction::whole(92_500_000_000));
+    assert!(margins(&FEEDER, &rate(&dry)).is_none());
+    assert!(margins(&FEEDER, &rate(&FEEDER_ALTERNATING)).is_none());
 }
 
 /// Where the loss does not count the exact rise has none of it either.

@@ -6,6 +6,7 @@
 mod agreement;
 mod book;
 mod book_refusals;
+mod direct_current;
 mod drawn_books;
 mod drawn_cases;
 mod drawn_lines;

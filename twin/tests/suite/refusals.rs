@@ -1,11 +1,11 @@
-// The refusals 1 to 11, 31 and 32: each by itself, and at the edges of its condition with
+// The refusals 1 to 11 and 31 to 33: each by itself, and at the edges of its condition with
 // the numbers as documents 01 and 02 have them.
 
-use twin::edge_cases::pairs::{BRINGS, COMMON_BRINGS};
+use twin::edge_cases::pairs::{BRINGS, COMMON_BRINGS, DIRECT_BRINGS};
 use twin::rating::{current_refused, rate, Rated, Words};
 use twin::sample_cables::{
-    with, ALL, COMMON_ALUMINIUM_SHEATH, COMMON_SHEATH, FLAT, FLAT_SINGLE_POINT, LOW_VOLTAGE,
-    SL_TYPE, TREFOIL, TREFOIL_SINGLE_POINT,
+    with, ALL, COMMON_ALUMINIUM_SHEATH, COMMON_SHEATH, FEEDER, FLAT, FLAT_SINGLE_POINT,
+    LOW_VOLTAGE, SL_TYPE, TREFOIL, TREFOIL_SINGLE_POINT,
 };
 use twin::standard::Cable;
 
@@ -41,6 +41,10 @@ fn each_refusal_by_itself() {
     for (number, changes) in COMMON_BRINGS {
         refused_with(&with(&COMMON_SHEATH, changes), number);
     }
+    for (number, changes) in DIRECT_BRINGS {
+        refused_with(&with(&FEEDER, changes), number);
+    }
+    refused_with(&with(&FEEDER, &[(29, 200_000)]), 10);
 }
 
 /// The pair 10 and 11 needs care, for the dielectric loss must leave enough of
@@ -61,7 +65,7 @@ fn dielectric_and_current_hold_together() {
 
 #[test]
 fn arrangement_and_conductor_ends() {
-    for arrangement in [0, 7, u32::MAX] {
+    for arrangement in [0, 8, u32::MAX] {
         refused_with(&with(&TREFOIL, &[(0, arrangement)]), 1);
         refused_with(&with(&COMMON_SHEATH, &[(0, arrangement)]), 1);
     }

@@ -3,9 +3,9 @@
 -- to. And what a refusal leaves. Each is the law of any lawful layout. Assumes nothing.
 use Rattle.std.specs.Prelude.{true, List, [], ◌∷◌, ◌++◌, ◌≡◌, ℕ, ◌≤◌, ◌<◌, length, get_or, take, drop}
 use Rattle.std.proofs.Common.{sym, ap, subst, ◌∙◌, suc-ne-zero, arith}
-use Rattle.rating.specs.Rate.{rate_of}
 use Rattle.book_laws.specs.Bytes.{below}
-use Rattle.book_laws.specs.Layout.{Layout, missing}
+use Rattle.book_laws.specs.Layout.{Layout}
+use Rattle.book_laws.specs.Format.{answered_fields}
 use Rattle.book_laws.specs.Start.{Written}
 use Rattle.book_laws.specs.Accept.{Acceptance, accept_in, AcceptedIn}
 use Rattle.book_laws.specs.Build.{all_cases, append_all}
@@ -27,8 +27,7 @@ use Rattle.book_laws.specs.Book.{
   Fits,
   Kept,
 }
-use Rattle.book_laws.proofs.Laws.Lawful.{answered_whole}
-use Rattle.book_laws.proofs.Laws.Mark.{new_lawful, layout_lawful, described_new, append_new}
+use Rattle.book_laws.proofs.Laws.Mark.{new_lawful, described_new, append_new}
 use Rattle.book_laws.proofs.Laws.Accept.{accepted_in, accepts_in}
 use Rattle.book_laws.proofs.Laws.Refused.{Unwritten, Unread, Unaccepted, start_in_refused, append_in_refused, read_in_refused}
 use Rattle.book_laws.proofs.Laws.Refused.{accept_in_refused}
@@ -69,17 +68,14 @@ module _ (b : List ℕ) (used : ℕ) where
       Accepted b used → accept_of b used ≡ record { number = 0; count = d.count; note = d.first; named = 0 }
   accepts = accepts_in (layout_of b used) b used
 
--- the cases of an accepted book, with zeros for the inputs that its layout does not store, are those that `read` answers, each with its
--- answer and its rating
+-- the cases of an accepted book are those that `read` answers, each with zeros for the inputs that the book's layout does not store, and
+-- with its answer and its rating by the layout's rule
 pub cases_as_read :
     (b : List ℕ) (used : ℕ) → Accepted b used → (i : ℕ) → i < (describe b used).count →
-    let d = describe b used in
-    let x = get_or (cases_of b used) i [] ++ missing (layout_of b used) in
-    read_of b used i ≡ record { number = 0; fields = x ++ ((rate_of x).number ∷ (rate_of x).rating ∷ []) }
+    read_of b used i ≡ record { number = 0; fields = answered_fields (layout_of b used) (get_or (cases_of b used) i []) }
 cases_as_read b used fine i is_record =
     rw (cases_read (layout_of b used) b used fine.trailer_right (describe b used).count (omega arith))
-    (cases_as_read_in (layout_of b used) b used i is_record fine
-    ∙ ap (λ (f : List ℕ). record { number = 0; fields = f }) (answered_whole (layout_lawful b used) _))
+    (cases_as_read_in (layout_of b used) b used i is_record fine)
 
 module _ (b : List ℕ) (used : ℕ) (bytes : below 256 b ≡ true) (is_new : IsNew b used) (fine : Accepted b used) where
   fine_new : AcceptedIn new_layout b used

@@ -12,7 +12,7 @@ use Rattle.rating.proofs.Laws.Answers.{cable}
 use Rattle.rating.proofs.Laws.Instances.{chosen, chosen_allowed}
 use Rattle.book_laws.specs.Bytes.{number_bytes, number_at, words_bytes, words_at, stands, below}
 use Rattle.book_laws.specs.Layout.{rbk2}
-use Rattle.book_laws.specs.Format.{fields_of, record_bytes, all_fields, trailer_bytes}
+use Rattle.book_laws.specs.Format.{fields_of, record_bytes, all_fields, answered_fields, trailer_bytes}
 use Rattle.book_laws.specs.Trailer.{wrong_trailer, describe_at, describe_in, on_book_in}
 use Rattle.book_laws.specs.Record.{all_agree}
 use Rattle.book_laws.specs.Start.{Written}
@@ -24,6 +24,7 @@ use Rattle.book_laws.specs.Book.{layout_of, IsNew, cases_of, describe, start_of,
 use Rattle.book_laws.specs.Book.{Accepted, Appended, build, Kept}
 use Rattle.book_laws.proofs.Laws.Refused.{Unwritten, Unread, Unaccepted}
 use Rattle.book_laws.proofs.Laws.Margin.{safe, close}
+use Rattle.book_laws.proofs.Laws.Answered.{AnsweredBy, new_answered}
 use Rattle.book_laws.proofs.Laws.Demands.{build_fits, kept, accepted, accepts, cases_as_read, appended, all_appended, rebuilt_whole}
 use Rattle.book_laws.proofs.Laws.Demands.{start_refused, append_refused, read_refused, accept_refused}
 use Rattle.book_laws.proofs.Laws.Literal.{small_book, fresh_book, literal, edges}
@@ -36,8 +37,13 @@ unfolding describe_in describe_at wrong_trailer stands layout_of number_at
 accepts_it = accepts small_book 146 fine
 
 reads_it : read_of small_book 146 0 ≡ record { number = 0; fields = cable ++ ((rate_of cable).number ∷ (rate_of cable).rating ∷ []) }
-unfolding describe_in describe_at wrong_trailer stands layout_of cases_read_in read_in read_after all_fields on_book_in words_at number_at
+unfolding describe_in describe_at wrong_trailer stands layout_of cases_read_in read_in read_after all_fields
+    answered_fields on_book_in words_at number_at
 reads_it = cases_as_read small_book 146 fine 0 (lit< tt)
+
+answered_it : AnsweredBy 0 457106 (rate_of cable)
+unfolding layout_of stands
+answered_it = new_answered small_book 146 refl fine 0 0 457106 cable literal.reads
 
 -- Built again in a buffer as long, with the note at its front.
 

@@ -1,19 +1,23 @@
--- What the laws of a book need of its layout: every number that a book stores fits its bytes, and the rule is `rate_of` of the stored
--- inputs with zeros for the others. RBK1 and RBK2 are such layouts. Assumes nothing.
-use Rattle.std.specs.Prelude.{true, List, [], ◌∷◌, ◌++◌, ◌≡◌, refl, ℕ, ◌*◌, ◌^◌, ◌≤◌, ◌<◌, length}
-use Rattle.std.proofs.Common.{sym, ap, append-nil, mul-le-mul_left, arith, lit<}
+-- What the laws of a book need of its layout: every number that a book stores fits its bytes, and what the rule rates it rates as `rate_of`
+-- does the stored inputs with zeros for the others. RBK1 and RBK2 are such layouts. Assumes nothing.
+use Rattle.std.specs.Prelude.{true, List, ◌++◌, ◌≡◌, refl, ℕ, ◌*◌, ◌^◌, ◌≤◌, ◌<◌, length}
+use Rattle.std.proofs.Common.{sym, ap, append-nil, suc-ne-zero, mul-le-mul_left, arith, lit<, lit≤}
+use Rattle.bools.proofs.Laws.Tests.{either, passed}
 use Rattle.rating.specs.Rate.{Answer, rate_of}
-use Rattle.rating.proofs.Laws.Bounds.{rate_of_bounded}
+use Rattle.rating.proofs.Laws.Bounds.{Bounded, rate_of_bounded}
 use Rattle.book_laws.specs.Bytes.{below}
-use Rattle.book_laws.specs.Layout.{Layout, missing, record_length, rbk1, rbk2}
-use Rattle.book_laws.specs.Format.{all_fields, answered_fields}
+use Rattle.book_laws.specs.Layout.{Layout, missing, record_length, refused_by_1, rbk1, rbk2}
 
 pub record Lawful (l : Layout) : Type 0 where
   pub mark_length : length l.mark ≡ 4
   pub mark_bytes : below 256 l.mark ≡ true
   pub distance_fits : record_length l * l.most < 256 ^ l.width
   pub length_fits : record_length l < 4294967296
-  pub rates : (x : List ℕ) → l.rule x ≡ rate_of (x ++ missing l)
+  pub bounded : (x : List ℕ) → Bounded (l.rule x)
+  pub rates : (x : List ℕ) → (l.rule x).number ≡ 0 → l.rule x ≡ rate_of (x ++ missing l)
+
+by_1_bounded : Bounded refused_by_1
+by_1_bounded = record { number_most = lit≤ tt; rating_most = lit≤ tt }
 
 pub rbk1_lawful : Lawful rbk1
 unfolding below
@@ -22,7 +26,8 @@ rbk1_lawful = record {
   mark_bytes = refl;
   distance_fits = lit< tt;
   length_fits = lit< tt;
-  rates = λ x. refl;
+  bounded = λ x. either Bounded _ by_1_bounded (rate_of_bounded _);
+  rates = λ x rated. (passed (λ (a : Answer). a.number) _ _ _ (suc-ne-zero 0) rated).1;
 }
 
 pub rbk2_lawful : Lawful rbk2
@@ -32,23 +37,17 @@ rbk2_lawful = record {
   mark_bytes = refl;
   distance_fits = lit< tt;
   length_fits = lit< tt;
-  rates = λ x. ap rate_of (sym (append-nil x));
+  bounded = rate_of_bounded;
+  rates = λ x rated. ap rate_of (sym (append-nil x));
 }
 
 -- an answer and a rating fit a field
 module _ {l : Layout} (lawful : Lawful l) (x : List ℕ) where
   pub number_of : (l.rule x).number < 4294967296
-  number_of = omega (arith, ap (λ (a : Answer). a.number) (lawful.rates x), (rate_of_bounded (x ++ missing l)).number_most)
+  number_of = omega (arith, (lawful.bounded x).number_most)
 
   pub rating_of : (l.rule x).rating < 4294967296
-  rating_of = omega (arith, ap (λ (a : Answer). a.rating) (lawful.rates x), (rate_of_bounded (x ++ missing l)).rating_most)
-
-  -- what `read` answers of its record is the case with the missing inputs, its answer and its rating
-  pub answered_whole :
-      let y = x ++ missing l in
-      answered_fields l x ≡ y ++ ((rate_of y).number ∷ (rate_of y).rating ∷ [])
-  unfolding answered_fields all_fields
-  answered_whole = ap (λ (a : Answer). x ++ missing l ++ (a.number ∷ a.rating ∷ [])) (lawful.rates x)
+  rating_of = omega (arith, (lawful.bounded x).rating_most)
 
 -- the distance of a book of n records, and so their count, fit the bytes that they have
 module _ {l : Layout} (lawful : Lawful l) (n : ℕ) (few : n ≤ l.most) where

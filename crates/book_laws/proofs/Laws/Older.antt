@@ -13,7 +13,7 @@ use Rattle.rating.proofs.Laws.Answers.{cable}
 use Rattle.rating.proofs.Laws.Instances.{answer, chosen, chosen_allowed}
 use Rattle.book_laws.specs.Bytes.{number_bytes, number_at, words_at, stands}
 use Rattle.book_laws.specs.Layout.{rbk1}
-use Rattle.book_laws.specs.Format.{all_fields, trailer_bytes}
+use Rattle.book_laws.specs.Format.{all_fields, answered_fields, trailer_bytes}
 use Rattle.book_laws.specs.Trailer.{undescribed, wrong_trailer, describe_at, describe_in, on_book_in}
 use Rattle.book_laws.specs.Record.{agrees, all_agree, first_disagreeing}
 use Rattle.book_laws.specs.Start.{Written, unwritten, start_in}
@@ -26,6 +26,7 @@ use Rattle.book_laws.proofs.Laws.Mark.{append_older}
 use Rattle.book_laws.proofs.Laws.Demands.{accepted, cases_as_read}
 use Rattle.book_laws.proofs.Laws.Judged.{as_rated, judged}
 use Rattle.book_laws.proofs.Laws.Margin.{safe, close}
+use Rattle.book_laws.proofs.Laws.Answered.{AnsweredBy, older_answered}
 use Rattle.book_laws.proofs.Laws.Literal.{note_and_inputs, small_book, fresh_book}
 
 -- From 106 on stands the answer, from 110 the rating, from 114 the trailer: the mark, from 118 the count, from 122 the distance, from 126
@@ -120,8 +121,13 @@ over = close older_book 130 fine 0 457106 cable older.reads chosen chosen_allowe
 
 -- its case, with zeros for the inputs that are not stored, is the one that `read` answers
 reads_it : read_of older_book 130 0 ≡ record { number = 0; fields = cable ++ ((rate_of cable).number ∷ (rate_of cable).rating ∷ []) }
-unfolding describe_in describe_at wrong_trailer stands layout_of cases_read_in read_in read_after all_fields on_book_in words_at number_at
+unfolding describe_in describe_at wrong_trailer stands layout_of cases_read_in read_in read_after all_fields
+    answered_fields on_book_in words_at number_at
 reads_it = cases_as_read older_book 130 fine 0 (lit< tt)
+
+answered_it : AnsweredBy 0 457106 (rate_of cable)
+unfolding layout_of stands
+answered_it = older_answered older_book 130 refl fine 0 0 457106 cable older.reads (λ direct. omega (arith, direct))
 
 -- Built again from its case, as it is stored or as `read` answers it, it is a book of RBK2, which is longer. So what `rebuilt` says of a
 -- book of RBK2 is false of it.

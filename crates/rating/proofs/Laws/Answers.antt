@@ -1,7 +1,8 @@
 -- The whole answer, number, rating and sheet, to one case of each arrangement, to one that is refused, to a low-voltage cable whose
--- dielectric loss does not count and then does, to a cable in soil that dries out, rated and refused, and to a cable on a bridge, in the
--- shade, in the sun and refused, computed from the definitions alone. The cases but `sunlit_older` and those that 31 and
--- 32 refuse stand in the files of examples/. A definition that gives them another number in any place is refused here. Assumes nothing.
+-- dielectric loss does not count and then does, to a cable in soil that dries out, rated and refused, to a cable on a bridge, in the
+-- shade, in the sun and refused, and to a feeder with direct current, with alternating current, in dry soil, in the sun and refused,
+-- computed from the definitions alone. The cases but `sunlit_older`, `feeder_dry`, `feeder_sunlit` and those that 31 to 33 refuse stand in
+-- the files of examples/. A definition that gives them another number in any place is refused here. Assumes nothing.
 use Rattle.std.specs.Prelude.{◌≡◌, List, [], ◌∷◌, ℕ, set}
 use Rattle.exact.specs.Rounding.{up, down}
 use Rattle.exact.specs.Root.{root}
@@ -71,17 +72,19 @@ use Rattle.rating.specs.Values.{
   permitted_of,
   solar_rise_of,
 }
-use Rattle.rating.specs.Arrangement.{axis_limits, no_armour, armourless, alternating}
+use Rattle.rating.specs.Arrangement.{axis_limits, no_armour, armourless}
 use Rattle.rating.specs.BothEnds.{both_ends}
 use Rattle.rating.specs.OnePoint.{one_point}
 use Rattle.rating.specs.SlType.{armour_limits, sl_type}
 use Rattle.rating.specs.CommonSheath.{common_sheath}
+use Rattle.rating.specs.DirectCurrent.{no_alternating, direct_current}
 use Rattle.rating.specs.Arrangements.{arrangement_of}
+use Rattle.rating.specs.Current.{R_of, Wd_of}
 use Rattle.rating.specs.FieldRefusals.{
   conductor_refused,
   limit_refused,
   conductor_limits,
-  sheath_limits,
+  alternating_limits,
   thermal_limits,
   moist,
   further_limits,
@@ -92,6 +95,7 @@ use Rattle.rating.specs.FieldRefusals.{
   isotherm_refused,
   sun_refused,
   metal_refused,
+  direct_voltage_refused,
   field_refusals,
 }
 use Rattle.rating.specs.Stage10.{d0, N, E, current_of}
@@ -184,6 +188,30 @@ sunlit_older = set sunlit 29 0
 -- and with soil that dries out, which refusal 32 refuses
 abbrev pub sunlit_dry : List ℕ
 sunlit_dry = set (set sunlit 27 2500) 28 3500
+
+-- 7: a d.c. feeder of 1.5 kV, one of three parallel cables
+abbrev pub feeder : List ℕ
+feeder =
+    7 ∷ 2 ∷ 0 ∷ 9000 ∷ 2000 ∷ 36600 ∷ 2630 ∷ 0 ∷ 2630 ∷ 3070 ∷ 1500 ∷ 0 ∷ 0 ∷ 0 ∷ 0 ∷ 0 ∷ 0 ∷ 0 ∷ 0 ∷ 0 ∷ 0 ∷ 0 ∷ 86171 ∷ 0 ∷ 119012
+    ∷ 1791461 ∷ 0 ∷ 0 ∷ 0 ∷ 0 ∷ []
+
+-- the same three cables as a circuit of arrangement 1, whose rating is 8 per cent smaller
+abbrev pub feeder_alternating : List ℕ
+feeder_alternating =
+    1 ∷ 2 ∷ 5000 ∷ 9000 ∷ 2000 ∷ 36600 ∷ 2630 ∷ 4000 ∷ 2630 ∷ 3070 ∷ 1800 ∷ 250 ∷ 400 ∷ 3420 ∷ 3 ∷ 524000 ∷ 8720 ∷ 0 ∷ 0 ∷ 0 ∷ 0 ∷ 0
+    ∷ 86171 ∷ 0 ∷ 119012 ∷ 1791461 ∷ 127000 ∷ 0 ∷ 0 ∷ 0 ∷ []
+
+-- the feeder in soil that dries out within the isotherm of 35 °C, where it has 2.5 times the resistivity of moist soil
+abbrev pub feeder_dry : List ℕ
+feeder_dry = set (set feeder 27 2500) 28 3500
+
+-- the feeder in the sun, of which it takes up 16 W/m, with another T4
+abbrev pub feeder_sunlit : List ℕ
+feeder_sunlit = set (set feeder 25 400000) 29 16000
+
+-- the feeder with 1 V above 5 kV, which refusal 33 refuses
+abbrev pub feeder_over : List ℕ
+feeder_over = set feeder 10 5001
 
 pub record Answered : Type 0 where
   pub both_ends_1 :
@@ -305,6 +333,41 @@ pub record Answered : Type 0 where
             961425400000 ∷ 4355508480800 ∷ 0 ∷ 628318530720 ∷ 8835005445 ∷ 12722773647 ∷ 982151596387 ∷ 0 ∷ 18300464921 ∷ 0 ∷ 56650693262
             ∷ 72512520 ∷ 1476291264367 ∷ [];
       }
+  -- R is R', and all but these two and E is 0
+  pub direct_7 :
+      rate_of feeder
+      ≡ record {
+        number = 0;
+        rating = 866734;
+        sheet =
+            466686600000 ∷ 0 ∷ 0 ∷ 0 ∷ 0 ∷ 0 ∷ 466686600000 ∷ 0 ∷ 0 ∷ 0 ∷ 0 ∷ 0 ∷ 931806999771 ∷ [];
+      }
+  -- in a.c., whose dielectric loss does not count
+  pub both_ends_1_feeder :
+      rate_of feeder_alternating
+      ≡ record {
+        number = 0;
+        rating = 795387;
+        sheet =
+            466686600000 ∷ 6623863040000 ∷ 0 ∷ 628318530720 ∷ 36655729563 ∷ 63114123517 ∷ 513247853517 ∷ 533945709829 ∷ 42763180211 ∷ 0
+            ∷ 0 ∷ 0 ∷ 1106471148426 ∷ [];
+      }
+  pub direct_7_dry :
+      rate_of feeder_dry
+      ≡ record {
+        number = 0;
+        rating = 650515;
+        sheet =
+            466686600000 ∷ 0 ∷ 0 ∷ 0 ∷ 0 ∷ 0 ∷ 466686600000 ∷ 0 ∷ 0 ∷ 0 ∷ 0 ∷ 0 ∷ 2185883264455 ∷ [];
+      }
+  pub direct_7_sunlit :
+      rate_of feeder_sunlit
+      ≡ record {
+        number = 0;
+        rating = 1500626;
+        sheet =
+            466686600000 ∷ 0 ∷ 0 ∷ 0 ∷ 0 ∷ 0 ∷ 466686600000 ∷ 0 ∷ 0 ∷ 0 ∷ 0 ∷ 0 ∷ 282430796649 ∷ [];
+      }
   pub refused_7 :
       rate_of aluminium
       ≡ record {
@@ -329,20 +392,29 @@ pub record Answered : Type 0 where
         sheet =
             0 ∷ 0 ∷ 0 ∷ 0 ∷ 0 ∷ 0 ∷ 0 ∷ 0 ∷ 0 ∷ 0 ∷ 0 ∷ 0 ∷ 0 ∷ [];
       }
+  pub refused_33 :
+      rate_of feeder_over
+      ≡ record {
+        number = 33;
+        rating = 0;
+        sheet =
+            0 ∷ 0 ∷ 0 ∷ 0 ∷ 0 ∷ 0 ∷ 0 ∷ 0 ∷ 0 ∷ 0 ∷ 0 ∷ 0 ∷ 0 ∷ [];
+      }
 
 pub answered : Answered
-unfolding rated sheet_of refused loaded judged or_refused field_refusals conductor_refused limit_refused conductor_limits sheath_limits
-    thermal_limits moist further_limits isotherm_unused stray_refused geometry_refused heat_refused isotherm_refused sun_refused
-    metal_refused arrangement_of sl_type soil_ratio soil_resistance isotherm_rise_of soil_T4 permitted_of armour_limits alternating
-    skin_refused eddy_refused dielectric_refused current_refused R' Rs RA B zs zp ys G yp R X XLow loss_counts Wd rise_of solar_rise_of d0
-    N E current_of conductor_metal temperature_factor resistance reactance reactance_low skin_reactance skin_ratio skin_ratio_squared
-    factor skin_factor spacing_ratio proximity_h proximity_g proximity_factor ac_resistance log_low log_high thirteen_terms series
-    first_power doubled octaves doublings spacing_log_high spacing_log_low sheath_reactance sheath_reactance_low bond_ratio
-    bond_ratio_squared circulating_loss three_halves sl_loss armour_ratio armour_ratio_squared reduced_armour_resistance unscreened_loss
-    screening_ratio_squared screened_loss armour_loss dielectric_loss dielectric_resistance dielectric_rise solar_rise permitted_rise
-    current_rise unit_rise rating root pi_low pi_high ln2_low ln2_high ln2_third_high tera up down axis_limits no_armour armourless
-    both_ends one_point eddy_ratio eddy_ratio_squared eddy_factor eddy_spacing eddy_loss common_sheath axis_ratio axis_ratio_squared
-    common_ratio common_ratio_squared is_first first_formula second_formula common_loss
+unfolding rated sheet_of refused loaded judged or_refused field_refusals conductor_refused limit_refused conductor_limits
+    alternating_limits thermal_limits moist further_limits isotherm_unused stray_refused geometry_refused heat_refused isotherm_refused
+    sun_refused metal_refused direct_voltage_refused arrangement_of sl_type soil_ratio soil_resistance isotherm_rise_of soil_T4
+    permitted_of armour_limits R_of Wd_of skin_refused eddy_refused dielectric_refused current_refused R' Rs RA B zs zp ys G yp R X XLow
+    loss_counts Wd rise_of solar_rise_of d0 N E current_of conductor_metal temperature_factor resistance reactance reactance_low
+    skin_reactance skin_ratio skin_ratio_squared factor skin_factor spacing_ratio proximity_h proximity_g proximity_factor ac_resistance
+    log_low log_high thirteen_terms series first_power doubled octaves doublings spacing_log_high spacing_log_low sheath_reactance
+    sheath_reactance_low bond_ratio bond_ratio_squared circulating_loss three_halves sl_loss armour_ratio armour_ratio_squared
+    reduced_armour_resistance unscreened_loss screening_ratio_squared screened_loss armour_loss dielectric_loss dielectric_resistance
+    dielectric_rise solar_rise permitted_rise current_rise unit_rise rating root pi_low pi_high ln2_low ln2_high ln2_third_high tera up
+    down axis_limits no_armour armourless both_ends one_point eddy_ratio eddy_ratio_squared eddy_factor eddy_spacing eddy_loss
+    common_sheath axis_ratio axis_ratio_squared common_ratio common_ratio_squared is_first first_formula second_formula common_loss
+    no_alternating direct_current
 answered =
     record {
       both_ends_1 = rate_of_is trefoil;
@@ -358,7 +430,12 @@ answered =
       bridge_6 = rate_of_is bridge;
       sunlit_6 = rate_of_is sunlit;
       sunlit_6_older = rate_of_is sunlit_older;
+      direct_7 = rate_of_is feeder;
+      both_ends_1_feeder = rate_of_is feeder_alternating;
+      direct_7_dry = rate_of_is feeder_dry;
+      direct_7_sunlit = rate_of_is feeder_sunlit;
       refused_7 = rate_of_is aluminium;
       refused_31 = rate_of_is cold_isotherm;
       refused_32 = rate_of_is sunlit_dry;
+      refused_33 = rate_of_is feeder_over;
     }

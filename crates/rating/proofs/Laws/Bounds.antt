@@ -10,7 +10,7 @@ use Rattle.rating.specs.Rate.{Answer, refused, rated, loaded, judged, rate_of, r
 
 -- the largest number of a refusal
 abbrev most_number : ℕ
-most_number = 32
+most_number = 33
 
 field_refusal_most : (x : List ℕ) → field_refusal x ≤ most_number
 unfolding field_refusals

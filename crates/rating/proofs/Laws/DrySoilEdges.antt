@@ -45,19 +45,21 @@ use Rattle.rating.specs.Values.{
   permitted_of,
   solar_rise_of,
 }
-use Rattle.rating.specs.Arrangement.{axis_limits, no_armour, armourless, alternating}
+use Rattle.rating.specs.Arrangement.{axis_limits, no_armour, armourless}
 use Rattle.rating.specs.BothEnds.{both_ends}
 use Rattle.rating.specs.OnePoint.{one_point}
 use Rattle.rating.specs.SlType.{armour_limits, sl_type}
 use Rattle.rating.specs.CommonSheath.{common_sheath}
+use Rattle.rating.specs.DirectCurrent.{no_alternating, direct_current}
 use Rattle.rating.specs.Arrangements.{no_arrangement, arrangement_of}
 use Rattle.rating.specs.Stage10.{numbers_of, d0, N, E, current_of}
 use Rattle.rating.specs.Rate.{refused, sheet_of, rated, loaded, judged, rate_of}
+use Rattle.rating.specs.Current.{R_of, Wd_of}
 use Rattle.rating.specs.FieldRefusals.{
   conductor_refused,
   limit_refused,
   conductor_limits,
-  sheath_limits,
+  alternating_limits,
   thermal_limits,
   moist,
   further_limits,
@@ -68,6 +70,7 @@ use Rattle.rating.specs.FieldRefusals.{
   isotherm_refused,
   sun_refused,
   metal_refused,
+  direct_voltage_refused,
   field_refusals,
   field_refusal,
 }
@@ -111,7 +114,7 @@ pub record DrySoilEdges : Type 0 where
       map (λ isotherm. stray_refused (dried 2500 isotherm)) (1 ∷ 3500 ∷ 25000 ∷ 4294967295 ∷ [])
       ≡ false ∷ false ∷ false ∷ false ∷ []
   -- and of this 4 and each other refusal of the fields that it can meet the earlier
-  pub arrangement_before_stray : misplaced_in_moist 0 7 ≡ 1
+  pub arrangement_before_stray : misplaced_in_moist 0 8 ≡ 1
   pub conductor_before_stray : misplaced_in_moist 1 9 ≡ 2
   pub limit_before_stray : misplaced_in_moist 20 99 ≡ 3
   pub stray_before_geometry : misplaced_in_moist 7 1849 ≡ 4
@@ -128,10 +131,10 @@ pub record DrySoilEdges : Type 0 where
   pub frost_passes : map frozen (4294966796 ∷ 4294966996 ∷ 0 ∷ 9000 ∷ []) ≡ 0 ∷ 0 ∷ 0 ∷ 0 ∷ []
   pub frost_gets_31 : map frozen (4294966795 ∷ 9001 ∷ []) ≡ 31 ∷ 31 ∷ []
   -- and so in each arrangement
-  pub passes_in_each : map (λ x. field_refusal (set (set x 27 2500) 28 3500)) each ≡ 0 ∷ 0 ∷ 0 ∷ 0 ∷ 0 ∷ 0 ∷ []
-  pub refused_in_each : map (λ x. field_refusal (set (set x 27 1000) 28 9001)) each ≡ 31 ∷ 31 ∷ 31 ∷ 31 ∷ 31 ∷ 31 ∷ []
+  pub passes_in_each : map (λ x. field_refusal (set (set x 27 2500) 28 3500)) each ≡ replicate 7 0
+  pub refused_in_each : map (λ x. field_refusal (set (set x 27 1000) 28 9001)) each ≡ replicate 7 31
   -- of two the earlier, on both sides of θx: 1 to 6 before 31
-  pub arrangement_before_isotherm : map (misplaced 0 7) (1999 ∷ 9001 ∷ []) ≡ 1 ∷ 1 ∷ []
+  pub arrangement_before_isotherm : map (misplaced 0 8) (1999 ∷ 9001 ∷ []) ≡ 1 ∷ 1 ∷ []
   pub conductor_before_isotherm : map (misplaced 1 9) (1999 ∷ 9001 ∷ []) ≡ 2 ∷ 2 ∷ []
   pub loss_voltage_before_isotherm : map (misplaced 26 300001) (1999 ∷ 9001 ∷ []) ≡ 3 ∷ 3 ∷ []
   pub ratio_before_isotherm : map (misplaced 27 999) (1999 ∷ 9001 ∷ []) ≡ 3 ∷ 3 ∷ []
@@ -144,9 +147,10 @@ pub record DrySoilEdges : Type 0 where
   pub isotherm_before_metals : field_refusal (set (set aluminium 27 2500) 28 1499) ≡ 31
 
 pub dry_soil_edges : DrySoilEdges
-unfolding or_refused field_refusals conductor_refused limit_refused conductor_limits sheath_limits thermal_limits moist further_limits
-    isotherm_unused stray_refused geometry_refused heat_refused isotherm_refused sun_refused metal_refused arrangement_of no_arrangement
-    both_ends one_point sl_type armour_limits common_sheath axis_limits no_armour armourless
+unfolding or_refused field_refusals conductor_refused limit_refused conductor_limits alternating_limits thermal_limits moist
+    further_limits isotherm_unused stray_refused geometry_refused heat_refused isotherm_refused sun_refused metal_refused
+    direct_voltage_refused arrangement_of no_arrangement both_ends one_point sl_type armour_limits common_sheath axis_limits no_armour
+    armourless no_alternating direct_current
 dry_soil_edges =
     record {
       ratio_passes_3 = refl;
@@ -227,15 +231,15 @@ pub record DrySoilValues : Type 0 where
   pub isotherm_before_current : (rate_of (set cooled 28 1999)).number ≡ 31
 
 pub dry_soil_values : DrySoilValues
-unfolding rated sheet_of refused loaded judged or_refused field_refusals conductor_refused limit_refused conductor_limits sheath_limits
-    thermal_limits moist further_limits isotherm_unused stray_refused geometry_refused heat_refused isotherm_refused sun_refused
-    metal_refused arrangement_of one_point common_sheath axis_limits no_armour armourless alternating skin_refused eddy_refused
-    dielectric_refused current_refused R' Rs B zs zp ys G yp R loss_counts Wd rise_of isotherm_rise_of soil_T4 permitted_of solar_rise_of
-    d0 N E current_of soil_ratio soil_resistance permitted_rise conductor_metal temperature_factor resistance reactance skin_reactance
-    skin_ratio skin_ratio_squared factor skin_factor spacing_ratio proximity_h proximity_g proximity_factor ac_resistance log_low
-    thirteen_terms series first_power doubled octaves doublings dielectric_loss dielectric_resistance dielectric_rise solar_rise
-    current_rise unit_rise rating root pi_high ln2_low tera up down common_loss axis_ratio axis_ratio_squared common_ratio
-    common_ratio_squared is_first first_formula second_formula
+unfolding rated sheet_of refused loaded judged or_refused field_refusals conductor_refused limit_refused conductor_limits
+    alternating_limits thermal_limits moist further_limits isotherm_unused stray_refused geometry_refused heat_refused isotherm_refused
+    sun_refused metal_refused direct_voltage_refused arrangement_of one_point common_sheath axis_limits no_armour armourless R_of Wd_of
+    skin_refused eddy_refused dielectric_refused current_refused R' Rs B zs zp ys G yp R loss_counts Wd rise_of isotherm_rise_of soil_T4
+    permitted_of solar_rise_of d0 N E current_of soil_ratio soil_resistance permitted_rise conductor_metal temperature_factor resistance
+    reactance skin_reactance skin_ratio skin_ratio_squared factor skin_factor spacing_ratio proximity_h proximity_g proximity_factor
+    ac_resistance log_low thirteen_terms series first_power doubled octaves doublings dielectric_loss dielectric_resistance
+    dielectric_rise solar_rise current_rise unit_rise rating root pi_high ln2_low tera up down common_loss axis_ratio axis_ratio_squared
+    common_ratio common_ratio_squared is_first first_formula second_formula
 dry_soil_values =
     record {
       none = refl;

@@ -10,18 +10,19 @@ use Rattle.formulas.specs.Logarithm.{doublings, octaves, doubled, series, first_
 use Rattle.formulas.specs.Soil.{soil_ratio, soil_resistance}
 use Rattle.formulas.specs.Dielectric.{dielectric_loss, dielectric_resistance, dielectric_rise}
 use Rattle.rating.specs.Values.{B, loss_counts, Wd, soil_T4}
-use Rattle.rating.specs.Arrangement.{axis_limits, no_armour, armourless, alternating}
+use Rattle.rating.specs.Arrangement.{axis_limits, no_armour, armourless}
 use Rattle.rating.specs.BothEnds.{both_ends}
 use Rattle.rating.specs.OnePoint.{one_point}
 use Rattle.rating.specs.CommonSheath.{common_sheath}
 use Rattle.rating.specs.Arrangements.{no_arrangement, arrangement_of}
 use Rattle.rating.specs.Stage10.{numbers_of}
+use Rattle.rating.specs.Current.{R_of, Wd_of}
 use Rattle.rating.specs.FieldRefusals.{
   arrangement_refused,
   conductor_refused,
   limit_refused,
   conductor_limits,
-  sheath_limits,
+  alternating_limits,
   thermal_limits,
   moist,
   further_limits,
@@ -32,14 +33,19 @@ use Rattle.rating.specs.FieldRefusals.{
   isotherm_refused,
   sun_refused,
   metal_refused,
+  direct_voltage_refused,
   field_refusals,
   field_refusal,
 }
-use Rattle.rating.proofs.Laws.Answers.{trefoil, flat, trefoil_one_point, flat_one_point, cable, three_cores}
+use Rattle.rating.proofs.Laws.Answers.{trefoil, flat, trefoil_one_point, flat_one_point, cable, three_cores, feeder}
 
--- a cable of each arrangement, which no refusal refuses
+-- a cable of each arrangement, which no refusal refuses: of those whose current alternates, and of all
+
+abbrev pub each_alternating : List (List ℕ)
+each_alternating = trefoil ∷ flat ∷ trefoil_one_point ∷ flat_one_point ∷ cable ∷ three_cores ∷ []
+
 abbrev pub each : List (List ℕ)
-each = trefoil ∷ flat ∷ trefoil_one_point ∷ flat_one_point ∷ cable ∷ three_cores ∷ []
+each = feeder ∷ each_alternating
 
 -- that of arrangement 6, with one field or two set anew
 
@@ -54,9 +60,9 @@ abbrev pub wrong_metal : List ℕ
 wrong_metal = set trefoil_one_point 14 2
 
 pub record CommonSheathEdges : Type 0 where
-  -- 1: there is no arrangement 7
+  -- 1: there is no arrangement 8
   pub six_passes_1 : arrangement_refused three_cores ≡ false
-  pub seven_gets_1 : arrangement_refused (having 0 7) ≡ true
+  pub eight_gets_1 : arrangement_refused (having 0 8) ≡ true
   -- 3: c has its limits
   pub least_c : limit_refused (having 20 100) ≡ false
   pub below_c : limit_refused (having 20 99) ≡ true
@@ -85,13 +91,13 @@ pub record CommonSheathEdges : Type 0 where
   pub geometry_before_heat : field_refusal (having_both 20 3689 16 9001) ≡ 5
 
 pub common_sheath_edges : CommonSheathEdges
-unfolding or_refused field_refusals conductor_refused limit_refused conductor_limits sheath_limits thermal_limits moist further_limits
-    isotherm_unused stray_refused geometry_refused heat_refused isotherm_refused sun_refused metal_refused arrangement_of no_arrangement
-    both_ends common_sheath axis_limits no_armour armourless
+unfolding or_refused field_refusals conductor_refused limit_refused conductor_limits alternating_limits thermal_limits moist
+    further_limits isotherm_unused stray_refused geometry_refused heat_refused isotherm_refused sun_refused metal_refused
+    direct_voltage_refused arrangement_of no_arrangement both_ends common_sheath axis_limits no_armour armourless
 common_sheath_edges =
     record {
       six_passes_1 = refl;
-      seven_gets_1 = refl;
+      eight_gets_1 = refl;
       least_c = refl;
       below_c = refl;
       most_c = refl;
@@ -134,7 +140,7 @@ pub record LossVoltageEdges : Type 0 where
   pub no_voltage_from_0 : loss_counts (having_both 26 0 10 0) ≡ true
   pub no_voltage_from_1 : loss_counts (having_both 26 1 10 0) ≡ false
   -- of two the earlier: field 26 by 3
-  pub arrangement_before_limit : field_refusal (having_both 26 300001 0 7) ≡ 1
+  pub arrangement_before_limit : field_refusal (having_both 26 300001 0 8) ≡ 1
   pub conductor_before_limit : field_refusal (having_both 26 300001 1 9) ≡ 2
   pub limit_before_stray : field_refusal (having_both 26 300001 17 1) ≡ 3
   pub limit_before_geometry : field_refusal (having_both 26 300001 7 1849) ≡ 3
@@ -143,11 +149,11 @@ pub record LossVoltageEdges : Type 0 where
   pub limit_before_metal : field_refusal (set wrong_metal 26 300001) ≡ 3
 
 pub loss_voltage_edges : LossVoltageEdges
-unfolding or_refused field_refusals conductor_refused limit_refused conductor_limits sheath_limits thermal_limits moist further_limits
-    isotherm_unused stray_refused geometry_refused heat_refused isotherm_refused sun_refused metal_refused arrangement_of no_arrangement
-    one_point common_sheath axis_limits no_armour armourless loss_counts Wd B soil_T4 soil_ratio soil_resistance alternating dielectric_loss
-    dielectric_resistance dielectric_rise reactance log_low thirteen_terms series first_power doubled octaves doublings pi_high ln2_low tera
-    up down
+unfolding or_refused field_refusals conductor_refused limit_refused conductor_limits alternating_limits thermal_limits moist
+    further_limits isotherm_unused stray_refused geometry_refused heat_refused isotherm_refused sun_refused metal_refused
+    direct_voltage_refused arrangement_of no_arrangement one_point common_sheath axis_limits no_armour armourless loss_counts Wd B soil_T4
+    soil_ratio soil_resistance R_of Wd_of dielectric_loss dielectric_resistance dielectric_rise reactance log_low thirteen_terms series
+    first_power doubled octaves doublings pi_high ln2_low tera up down
 loss_voltage_edges =
     record {
       least_loss_voltage = refl;

@@ -1,8 +1,10 @@
 -- Demand 3 on a case of arrangement 5, a three-core SL type of 124 microhm/m at 19 kV which rates 457.106 A, with fractions chosen for pi,
--- ln 2 and the two logarithms; and on cases of arrangements 3 and 6, which have one logarithm alone, one of them without dielectric loss,
--- one in soil that dries out and one in the sun. So the premises of the theorems are met. Assumes nothing.
+-- ln 2 and the two logarithms; on cases of arrangements 3 and 6, which have one logarithm alone, one of them without dielectric loss, one
+-- in soil that dries out and one in the sun; and on cases of arrangement 7, which has none of the four. So the premises of the theorems are
+-- met. Assumes nothing.
 use Rattle.std.specs.Prelude.{◌≡◌, refl, false, List, take, set, ℕ, ◌+◌, ◌*◌, ◌^◌}
 use Rattle.std.proofs.Common.{sym, ap, subst, ◌∙◌, lit<, suc-ne-zero, true≢false}
+use Rattle.bools.proofs.Laws.Tests.{other_outcome}
 use Rattle.exact.specs.Rounding.{up, down}
 use Rattle.exact.specs.Fraction.{Fraction, ◌over◌, whole, ◌+F◌, ◌*F◌, reciprocal, ◌≃F◌, ◌≤F◌, ◌<F◌}
 use Rattle.exact.proofs.Laws.Fraction.{closed≤}
@@ -22,14 +24,16 @@ use Rattle.formulas.specs.Logarithm.{doublings, octaves, doubled, series, first_
 use Rattle.fields.specs.Fields as Field
 use Rattle.rating.specs.Values.{R', Rs, loss_counts, rise_of, isotherm_rise_of, soil_T4, permitted_of, solar_rise_of}
 use Rattle.rating.specs.Chosen.{Chosen, B*, R*, Wd*}
-use Rattle.rating.specs.Arrangement.{alternating, alternating*}
+use Rattle.rating.specs.Current.{R_of*, Wd_of*}
 use Rattle.rating.specs.OnePoint.{one_point}
 use Rattle.rating.specs.CommonSheath.{common_sheath}
+use Rattle.rating.specs.DirectCurrent.{direct_current}
 use Rattle.rating.specs.Arrangements.{arrangement_of, own}
 use Rattle.rating.specs.Allowed.{Allowed}
 use Rattle.rating.specs.Rate.{Answer, rated, rate_of}
 use Rattle.rating.specs.Exact.{numbers_of*, exact_rise, d0*, E*}
-use Rattle.rating.proofs.Laws.LossVoltage.{Counted, counted, Uncounted, uncounted}
+use Rattle.rating.proofs.Laws.LossVoltage.{Counted, counted, Uncounted, uncounted, direct_lossless}
+use Rattle.rating.proofs.Laws.Direct.{Direct, direct}
 use Rattle.rating.proofs.Laws.Older.{Older, older}
 use Rattle.rating.proofs.Laws.Moist.{AsMoist, AsMoist*, as_moist, as_moist*}
 use Rattle.rating.proofs.Laws.DrySoil.{Dries, dries}
@@ -48,6 +52,9 @@ use Rattle.rating.proofs.Laws.Answers.{
   bridge,
   sunlit,
   sunlit_older,
+  feeder,
+  feeder_dry,
+  feeder_sunlit,
   answered,
 }
 
@@ -64,10 +71,10 @@ pub chosen_allowed : Allowed (own cable) cable chosen
 unfolding pi_low pi_high log_low log_high thirteen_terms series first_power doubled octaves doublings ln2_low ln2_high tera up down
 chosen_allowed =
     record {
-      pi = record { at_least = closed≤ tt; at_most = closed≤ tt };
-      ln2 = record { at_least = closed≤ tt; at_most = closed≤ tt };
+      pi = λ alternates. record { at_least = closed≤ tt; at_most = closed≤ tt };
+      ln2 = λ alternates. record { at_least = closed≤ tt; at_most = closed≤ tt };
       log_spacing = λ reactive. record { at_least = closed≤ tt; at_most = closed≤ tt };
-      log_insulation = record { at_least = closed≤ tt; at_most = closed≤ tt };
+      log_insulation = λ alternates. record { at_least = closed≤ tt; at_most = closed≤ tt };
     }
 
 -- of a whole answer
@@ -122,10 +129,10 @@ without_spacing_allowed :
 unfolding pi_low pi_high ln2_low ln2_high tera
 without_spacing_allowed x log not-reactive is-log =
     record {
-      pi = record { at_least = closed≤ tt; at_most = closed≤ tt };
-      ln2 = record { at_least = closed≤ tt; at_most = closed≤ tt };
+      pi = λ alternates. record { at_least = closed≤ tt; at_most = closed≤ tt };
+      ln2 = λ alternates. record { at_least = closed≤ tt; at_most = closed≤ tt };
       log_spacing = λ reactive. absurd (true≢false (sym reactive ∙ not-reactive));
-      log_insulation = is-log;
+      log_insulation = λ alternates. is-log;
     }
 
 abbrev chosen_3 : Chosen
@@ -247,7 +254,7 @@ shade : InShade bridge
 shade = in_shade bridge refl
 
 shade* : d0* bridge chosen_6 ≃F (numbers_of* bridge chosen_6).dd
-unfolding common_sheath arrangement_of alternating* B* Wd* loss_counts reactance* dielectric_loss* dielectric_rise* ◌*F◌ reciprocal
+unfolding common_sheath arrangement_of Wd_of* B* Wd* loss_counts reactance* dielectric_loss* dielectric_rise* ◌*F◌ reciprocal
 shade* = shade.rise* chosen_6 (lit< tt)
 
 pub allowed_sun : Allowed (own sunlit) sunlit chosen_6
@@ -273,7 +280,75 @@ under_sun = rw (← permitted_sun) (under_at allowed_sun answer_sun)
 over_sun : whole 60000000000 <F exact_rise sunlit chosen_6 (whole (579762 + 2))
 over_sun = rw (← permitted_sun) (over_at allowed_sun answer_sun)
 
--- the last two by computing the exact rise itself, with none of the theorems: at the rating it is not above, and at 1 mA more not below
+-- In arrangement 7 nothing is asked of what stands for pi, ln 2 and the two logarithms.
+
+abbrev pub chosen_7 : Chosen
+chosen_7 = record { pi = 0 over 0; ln2 = 0 over 0; log_spacing = 0 over 0; log_insulation = 0 over 0 }
+
+nothing_asked : (x : List ℕ) → (own x).alternates ≡ false → (own x).reactive ≡ false → Allowed (own x) x chosen_7
+nothing_asked x is_direct not_reactive =
+    record {
+      pi = other_outcome _ is_direct;
+      ln2 = other_outcome _ is_direct;
+      log_spacing = other_outcome _ not_reactive;
+      log_insulation = other_outcome _ is_direct;
+    }
+
+pub allowed_feeder : Allowed (own feeder) feeder chosen_7
+unfolding arrangement_of direct_current
+allowed_feeder = nothing_asked feeder refl refl
+
+pub answer_feeder : ((rate_of feeder).number ≡ 0) × ((rate_of feeder).rating ≡ 866734)
+answer_feeder = number_and_rating _ answered.direct_7
+
+under_7 : exact_rise feeder chosen_7 (whole 866734) ≤F whole (permitted_of feeder)
+under_7 = under_at allowed_feeder answer_feeder
+
+over_7 : whole (permitted_of feeder) <F exact_rise feeder chosen_7 (whole (866734 + 2))
+over_7 = over_at allowed_feeder answer_feeder
+
+-- it has no dielectric loss, although its U0 is not below field 26; and it is a case of the older width too, which a book of RBK1 refuses
+
+no_loss_7 : Uncounted feeder
+unfolding arrangement_of direct_current
+no_loss_7 = direct_lossless feeder refl
+
+direct_feeder : Direct feeder
+direct_feeder = direct feeder refl
+
+older_feeder : Older feeder
+older_feeder = older (take 26 feeder) refl
+
+-- in soil that dries out, and in the sun
+
+allowed_feeder_dry : Allowed (own feeder_dry) feeder_dry chosen_7
+unfolding arrangement_of direct_current
+allowed_feeder_dry = nothing_asked feeder_dry refl refl
+
+answer_feeder_dry : ((rate_of feeder_dry).number ≡ 0) × ((rate_of feeder_dry).rating ≡ 650515)
+answer_feeder_dry = number_and_rating _ answered.direct_7_dry
+
+under_7_dry : exact_rise feeder_dry chosen_7 (whole 650515) ≤F whole (permitted_of feeder_dry)
+under_7_dry = under_at allowed_feeder_dry answer_feeder_dry
+
+over_7_dry : whole (permitted_of feeder_dry) <F exact_rise feeder_dry chosen_7 (whole (650515 + 2))
+over_7_dry = over_at allowed_feeder_dry answer_feeder_dry
+
+allowed_feeder_sunlit : Allowed (own feeder_sunlit) feeder_sunlit chosen_7
+unfolding arrangement_of direct_current
+allowed_feeder_sunlit = nothing_asked feeder_sunlit refl refl
+
+answer_feeder_sunlit : ((rate_of feeder_sunlit).number ≡ 0) × ((rate_of feeder_sunlit).rating ≡ 1500626)
+answer_feeder_sunlit = number_and_rating _ answered.direct_7_sunlit
+
+under_7_sunlit : exact_rise feeder_sunlit chosen_7 (whole 1500626) ≤F whole (permitted_of feeder_sunlit)
+under_7_sunlit = under_at allowed_feeder_sunlit answer_feeder_sunlit
+
+over_7_sunlit : whole (permitted_of feeder_sunlit) <F exact_rise feeder_sunlit chosen_7 (whole (1500626 + 2))
+over_7_sunlit = over_at allowed_feeder_sunlit answer_feeder_sunlit
+
+-- demand 3 in dry soil, in the sun and with direct current by computing the exact rise itself, with none of the theorems: at the rating it
+-- is not above the permitted rise, and at 1 mA more not below
 record Worked : Type 0 where
   dry :
       (exact_rise dry_soil chosen_6 (whole 360793) ≤F whole 92500000000)
@@ -281,10 +356,14 @@ record Worked : Type 0 where
   sun :
       (exact_rise sunlit chosen_6 (whole 579762) ≤F whole 60000000000)
       × (whole 60000000000 ≤F exact_rise sunlit chosen_6 (whole 579763))
+  direct :
+      (exact_rise feeder chosen_7 (whole 866734) ≤F whole 70000000000)
+      × (whole 70000000000 ≤F exact_rise feeder chosen_7 (whole 866735))
 
 worked : Worked
-unfolding exact_rise d0* solar_rise_of solar_rise rise* E* unit_rise* common_sheath arrangement_of alternating alternating* B* R* Wd* R'
+unfolding exact_rise d0* solar_rise_of solar_rise rise* E* unit_rise* common_sheath arrangement_of R_of* Wd_of* B* R* Wd* R'
     Rs soil_T4 loss_counts ac_resistance* skin_factor* factor* skin_ratio* skin_reactance* proximity_factor* spacing_ratio* proximity_g*
     proximity_h* common_loss* axis_ratio* common_ratio* first_formula* second_formula* is_first reactance* dielectric_loss*
     dielectric_rise* dielectric_resistance soil_resistance soil_ratio resistance temperature_factor conductor_metal ◌+F◌ ◌*F◌ reciprocal
-worked = record { dry = (closed≤ tt, closed≤ tt); sun = (closed≤ tt, closed≤ tt) }
+    direct_current
+worked = record { dry = (closed≤ tt, closed≤ tt); sun = (closed≤ tt, closed≤ tt); direct = (closed≤ tt, closed≤ tt) }

@@ -22,16 +22,16 @@ promised x none_given =
       insulation = insulation_promised fine.screen_diameter.least fine.insulated fine.insulation_diameter.most;
       spacing =
           λ reactive.
-          spacing_promised fine.sheath_diameter.least
-          ((lawful (Field.arrangement x)).apart reactive fine.geometry)
-          fine.spacing.most;
+          let its = lawful (Field.arrangement x) in
+          let ac = fine.alternating (its.reacts reactive) in
+          spacing_promised ac.sheath_diameter.least (its.apart reactive fine.geometry) ac.spacing.most;
     }
 
 pub lowest_allowed : (x : List ℕ) → Allowed (own x) x (lowest x)
 lowest_allowed x =
     record {
-      pi = pi_exists;
-      ln2 = ln2_exists;
+      pi = λ alternates. pi_exists;
+      ln2 = λ alternates. ln2_exists;
       log_spacing = λ reactive. log_exists (2 * Field.spacing x) (Field.sheath_diameter x);
-      log_insulation = log_exists (Field.insulation_diameter x) (Field.screen_diameter x);
+      log_insulation = λ alternates. log_exists (Field.insulation_diameter x) (Field.screen_diameter x);
     }

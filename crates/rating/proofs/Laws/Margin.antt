@@ -27,14 +27,14 @@ pub fit : {x : List ℕ} → Passed x → Fit (own x) x
 unfolding skin_refused eddy_refused
 fit {x} p =
     let fine = sound x p.fields in
-    let within_limit = neither _ _ p.skin in
     record {
       sound = fine;
       known = fine.known;
       limits = fine.limits;
       geometry = fine.geometry;
-      skin = ltb-false _ _ within_limit.0;
-      proximity = ltb-false _ _ within_limit.1;
+      alternating = fine.alternating;
+      skin = λ alternates. ltb-false _ _ (neither _ _ (not_both _ _ p.skin alternates)).0;
+      proximity = λ alternates. ltb-false _ _ (neither _ _ (not_both _ _ p.skin alternates)).1;
       eddies = λ tried. ltb-false _ _ (not_both _ _ p.eddies tried);
     }
 

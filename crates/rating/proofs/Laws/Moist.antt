@@ -1,11 +1,9 @@
 -- Soil that does not dry out, on a case. Where ρ counts as 1000, which is where it is 0 or 1000, T4, the permitted rise, E and dd are those
 -- of document 01, rounded and exact: such a case is rated as it was before there was dry soil. Assumes nothing.
-use Rattle.std.specs.Prelude.{◌≡◌, true, List, ℕ, ◌+◌, ◌*◌, ◌^◌, ◌<◌}
-use Rattle.std.proofs.Common.{◌∙◌, arith, lit≤}
+use Rattle.std.specs.Prelude.{◌≡◌, List, ℕ, ◌+◌, ◌*◌, ◌^◌}
 use Rattle.exact.specs.Rounding.{up}
-use Rattle.exact.specs.Fraction.{whole, ◌+F◌, ◌*F◌, reciprocal, ◌/F◌, ◌≃F◌}
+use Rattle.exact.specs.Fraction.{whole, ◌+F◌, ◌*F◌, ◌/F◌, ◌≃F◌}
 use Rattle.formulas.specs.Soil.{soil_ratio}
-use Rattle.formulas.specs.Dielectric.{dielectric_rise*}
 use Rattle.formulas.proofs.Laws.Soil.{
   moist_resistance,
   moist_permitted,
@@ -15,18 +13,17 @@ use Rattle.formulas.proofs.Laws.Soil.{
   moist_dielectric_rise*,
 }
 use Rattle.fields.specs.Fields as Field
-use Rattle.rating.specs.Values.{Wd, rise_of, isotherm_rise_of, soil_T4, permitted_of}
-use Rattle.rating.specs.Chosen.{Chosen, Wd*}
+use Rattle.rating.specs.Values.{rise_of, isotherm_rise_of, soil_T4, permitted_of}
+use Rattle.rating.specs.Chosen.{Chosen}
 use Rattle.rating.specs.Arrangements.{own}
+use Rattle.rating.specs.Current.{Wd_of, Wd_of*}
 use Rattle.rating.specs.Allowed.{Allowed}
 use Rattle.rating.specs.Stage10.{numbers_of, E}
 use Rattle.rating.specs.Exact.{numbers_of*, E*}
 use Rattle.rating.specs.Laws.Fit.{Fit}
-use Rattle.rating.proofs.Laws.Close.{dd_close}
-use Rattle.rating.proofs.Laws.Arrangements.{lawful}
-use Rattle.rating.proofs.Laws.DielectricRise.{rises}
+use Rattle.rating.proofs.Laws.Current.{Wd_of_close}
+use Rattle.rating.proofs.Laws.Stage10.{numbers_close}
 
--- dd is asked for where refusal 1 is not given: what is no arrangement has no numbers
 pub record AsMoist (x : List ℕ) : Type 0 where
   pub resistance : soil_T4 x ≡ 1000 * Field.t4 x
   pub permitted : permitted_of x ≡ 10 ^ 7 * rise_of x
@@ -36,9 +33,8 @@ pub record AsMoist (x : List ℕ) : Type 0 where
       + up ((numbers_of x).n * ((numbers_of x).R + (numbers_of x).S) * Field.t2 x) (10 ^ 6)
       + up ((numbers_of x).n * ((numbers_of x).R + (numbers_of x).S + (numbers_of x).W) * (Field.t3 x + Field.t4 x)) (10 ^ 6)
   pub rise :
-      (own x).known ≡ true →
       (numbers_of x).dd
-      ≡ up (Wd x * (Field.t1 x + 2 * (numbers_of x).n * (Field.t2 x + Field.t3 x + Field.t4 x))) (2 * 10 ^ 9)
+      ≡ up (Wd_of x * (Field.t1 x + 2 * (numbers_of x).n * (Field.t2 x + Field.t3 x + Field.t4 x))) (2 * 10 ^ 9)
 
 -- the same with no rounding
 pub record AsMoist* (x : List ℕ) (c : Chosen) : Type 0 where
@@ -51,7 +47,7 @@ pub record AsMoist* (x : List ℕ) (c : Chosen) : Type 0 where
       /F whole (10 ^ 6)
   pub rise :
       (numbers_of* x c).dd
-      ≃F Wd* x c *F whole (Field.t1 x + 2 * (numbers_of x).n * (Field.t2 x + Field.t3 x + Field.t4 x)) /F whole (2 * 10 ^ 9)
+      ≃F Wd_of* x c *F whole (Field.t1 x + 2 * (numbers_of x).n * (Field.t2 x + Field.t3 x + Field.t4 x)) /F whole (2 * 10 ^ 9)
 
 module _ (x : List ℕ) (none_dries : soil_ratio (Field.dry_ratio x) ≡ 1000) where
   pub as_moist : AsMoist x
@@ -63,22 +59,14 @@ module _ (x : List ℕ) (none_dries : soil_ratio (Field.dry_ratio x) ≡ 1000) w
         resistance = moist_resistance ρ none_dries (Field.t4 x);
         permitted = moist_permitted ρ none_dries (rise_of x) (isotherm_rise_of x);
         unit_rise = moist_unit_rise ρ none_dries ν.n ν.R ν.S ν.W (Field.t1 x) (Field.t2 x) (Field.t3 x) (Field.t4 x);
-        rise =
-            λ known.
-            (rises x (Field.arrangement x) known).rise
-            ∙ moist_dielectric_rise ρ none_dries ν.n (Wd x) (Field.t1 x) (Field.t2 x) (Field.t3 x) (Field.t4 x);
+        rise = moist_dielectric_rise ρ none_dries ν.n (Wd_of x) (Field.t1 x) (Field.t2 x) (Field.t3 x) (Field.t4 x);
       }
 
   module _ {c : Chosen} (allowed : Allowed (own x) x c) (fit : Fit (own x) x) where
-    -- the bound on dd says that it has a value, and so that Wd has
-    loss_has_value : 0 < (Wd* x c).den
-    unfolding dielectric_rise* ◌*F◌ reciprocal
-    loss_has_value = omega (arith, (dd_close allowed fit.sound {n = 1} (lit≤ tt)).below.left)
-
     pub as_moist* : AsMoist* x c
     unfolding soil_T4 E*
     as_moist* =
-        let near = (lawful (Field.arrangement x)).close allowed fit in
+        let near = numbers_close fit allowed in
         let ν* = numbers_of* x c in
         let n = (numbers_of x).n in
         let ρ = Field.dry_ratio x in
@@ -88,6 +76,6 @@ module _ (x : List ℕ) (none_dries : soil_ratio (Field.dry_ratio x) ≡ 1000) w
               near.S.below.left
               near.W.below.left;
           rise =
-              rw ((rises x (Field.arrangement x) fit.known).rise* c)
-              (moist_dielectric_rise* ρ none_dries n (Wd* x c) (Field.t1 x) (Field.t2 x) (Field.t3 x) (Field.t4 x) loss_has_value);
+              moist_dielectric_rise* ρ none_dries n (Wd_of* x c) (Field.t1 x) (Field.t2 x) (Field.t3 x) (Field.t4 x)
+              (Wd_of_close fit allowed).below.left;
         }

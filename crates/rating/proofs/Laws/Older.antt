@@ -1,5 +1,5 @@
--- A case of the older width, as one of today's. Its dielectric loss counts at every voltage, its soil stays moist, no sun heats it, and
--- no test of the fields that it does not have refuses it. Assumes nothing.
+-- A case of the older width, as one of today's. At every voltage its dielectric loss is stage 9's, where its current alternates; its soil
+-- stays moist, no sun heats it, and no test of the fields that it does not have refuses it. Assumes nothing.
 use Rattle.std.specs.Prelude.{◌≡◌, true, false, List, length, get_or, replicate, ℕ, ◌-◌, ◌≤◌}
 use Rattle.std.proofs.Common.{lit≤}
 use Rattle.std.proofs.lemmas.List.{get_or-append_right}

@@ -1,5 +1,5 @@
 -- The range of each value of a case that does not depend on the arrangement alone: what the stages' code requires of it, from the
--- limits of the fields. Assumes nothing.
+-- limits of the fields, those of every case or those of one whose current alternates. Assumes nothing.
 use Rattle.std.specs.Prelude.{◌≡◌, List, ℕ, ◌*◌, ◌≤◌, ◌<◌}
 use Rattle.std.proofs.Common.{le_trans, mul-le-mul, arith, lit≤}
 use Rattle.bools.proofs.Laws.Tests.{either}
@@ -40,7 +40,7 @@ use Rattle.formulas.specs.Laws.Ranges.{In}
 use Rattle.stages.specs.Laws.Ranges.{ThermalRanges, CirculatingRanges}
 use Rattle.fields.specs.Fields as Field
 use Rattle.rating.specs.Values.{R', Rs, B, zs, zp, ys, G, yp, R, X, XLow, Wd, loss_counts, rise_of, soil_T4, permitted_of, solar_rise_of}
-use Rattle.rating.specs.Laws.Sound.{Sound}
+use Rattle.rating.specs.Laws.Sound.{Sound, Alternating}
 use Rattle.rating.proofs.Laws.Rise.{above_cold, rise_range, isotherm_rise_most}
 
 module _ {x : List ℕ} (fine : Sound x) where
@@ -51,18 +51,6 @@ module _ {x : List ℕ} (fine : Sound x) where
       (coefficient_most (conductor_metal (Field.conductor x)))
       (above_cold _ fine.hot.least)
       fine.hot.most
-
-  pub Rs_range : In least_sheath_resistance most_resistance (Rs x)
-  unfolding Rs
-  Rs_range =
-      Law.resistance_range 1000 20000000 (Field.sheath_temperature x) fine.sheath_resistance
-      (coefficient_most (Field.sheath_metal x))
-      fine.sheath_temperature.least
-      fine.sheath_temperature.most
-
-  pub B_range : In least_reactance most_reactance (B x)
-  unfolding B
-  B_range = Law.reactance_range fine.frequency
 
   pub insulation_ratio : Field.insulation_diameter x < 32768 * Field.screen_diameter x
   insulation_ratio = omega (arith, fine.insulation_diameter, fine.screen_diameter)
@@ -75,19 +63,6 @@ module _ {x : List ℕ} (fine : Sound x) where
         most =
             log_low_most _ _ (omega (arith, fine.screen_diameter)) (omega (arith, fine.insulated)) insulation_ratio;
       }
-
-  loss_product : Field.permittivity x * (Field.voltage x * Field.voltage x) * Field.loss_factor x ≤ 720000000000000000
-  loss_product =
-      mul-le-mul
-      (mul-le-mul fine.permittivity.most (mul-le-mul fine.voltage.most fine.voltage.most))
-      fine.loss_factor.most
-
-  pub Wd_most : Wd x ≤ most_dielectric_loss
-  unfolding Wd dielectric_loss
-  Wd_most =
-      either (λ wd. wd ≤ most_dielectric_loss) (loss_counts x)
-      (Law.dielectric_loss_most loss_product B_range.most insulation_log_range.least)
-      (lit≤ tt)
 
   -- T4 and the permitted rise, with what dry soil adds
 
@@ -126,36 +101,33 @@ module _ {x : List ℕ} (fine : Sound x) where
     unfolding G zp skin_factor
     G_most = Law.factor_most (Law.skin_ratio_squared_most zp≤)
 
-    -- where the conductors do not overlap
-    module _ (spaced : Field.conductor_diameter x ≤ Field.spacing x) where
-      pub u_most : spacing_ratio (Field.conductor_diameter x) (Field.spacing x) ≤ 1000000000000
-      u_most = Law.spacing_ratio_most (omega (arith, fine.spacing)) spaced
+module _ {x : List ℕ} (ac : Alternating x) where
+  pub Rs_range : In least_sheath_resistance most_resistance (Rs x)
+  unfolding Rs
+  Rs_range =
+      Law.resistance_range 1000 20000000 (Field.sheath_temperature x) ac.sheath_resistance
+      (coefficient_most (Field.sheath_metal x))
+      ac.sheath_temperature.least
+      ac.sheath_temperature.most
 
-      pub yp_most : yp x ≤ most_proximity_factor
-      unfolding yp
-      yp_most = Law.proximity_factor_most u_most G_most
-
-      pub R_range : In least_conductor_resistance most_ac_resistance (R x)
-      unfolding R
-      R_range = Law.ac_resistance_range R'_range ys_most yp_most
+  pub B_range : In least_reactance most_reactance (B x)
+  unfolding B
+  B_range = Law.reactance_range ac.frequency
 
   -- where the sheaths do not overlap
   module _ (apart : Field.sheath_diameter x ≤ Field.spacing x) where
-    pub conductors_apart : Field.conductor_diameter x ≤ Field.spacing x
-    conductors_apart = omega (arith, fine.core, fine.insulated, fine.sheathed)
-
     -- 2s/d is below 2^15
     pub spacing_ratio_below : 2 * Field.spacing x < 32768 * Field.sheath_diameter x
-    spacing_ratio_below = omega (arith, fine.spacing, fine.sheath_diameter)
+    spacing_ratio_below = omega (arith, ac.spacing, ac.sheath_diameter)
 
     pub spacing_log_high_most : spacing_log_high (Field.arrangement x) (Field.spacing x) (Field.sheath_diameter x) ≤ most_spacing_log
-    spacing_log_high_most = Law.spacing_log_high_most _ _ _ (omega (arith, fine.sheath_diameter)) (omega arith) spacing_ratio_below
+    spacing_log_high_most = Law.spacing_log_high_most _ _ _ (omega (arith, ac.sheath_diameter)) (omega arith) spacing_ratio_below
 
     pub spacing_log_low_most : spacing_log_low (Field.arrangement x) (Field.spacing x) (Field.sheath_diameter x) ≤ most_spacing_log
-    spacing_log_low_most = Law.spacing_log_low_most _ _ _ (omega (arith, fine.sheath_diameter)) (omega arith) spacing_ratio_below
+    spacing_log_low_most = Law.spacing_log_low_most _ _ _ (omega (arith, ac.sheath_diameter)) (omega arith) spacing_ratio_below
 
     d>0 : 0 < Field.sheath_diameter x
-    d>0 = omega (arith, fine.sheath_diameter)
+    d>0 = omega (arith, ac.sheath_diameter)
 
     pub X_range : In least_sheath_reactance most_sheath_reactance (X x)
     unfolding X
@@ -177,6 +149,36 @@ module _ {x : List ℕ} (fine : Sound x) where
     unfolding XLow
     X_low_range =
         record {
-          least = sheath_reactance_low_least (Field.arrangement x) fine.frequency.least d>0 apart;
-          most = Law.sheath_reactance_low_most (le_trans (Law.reactance_low_most fine.frequency.most) (lit≤ tt)) spacing_log_low_most;
+          least = sheath_reactance_low_least (Field.arrangement x) ac.frequency.least d>0 apart;
+          most = Law.sheath_reactance_low_most (le_trans (Law.reactance_low_most ac.frequency.most) (lit≤ tt)) spacing_log_low_most;
         }
+
+module _ {x : List ℕ} (fine : Sound x) (ac : Alternating x) where
+  loss_product : Field.permittivity x * (Field.voltage x * Field.voltage x) * Field.loss_factor x ≤ 720000000000000000
+  loss_product =
+      mul-le-mul
+      (mul-le-mul ac.permittivity.most (mul-le-mul fine.voltage.most fine.voltage.most))
+      ac.loss_factor.most
+
+  pub Wd_most : Wd x ≤ most_dielectric_loss
+  unfolding Wd dielectric_loss
+  Wd_most =
+      either (λ wd. wd ≤ most_dielectric_loss) (loss_counts x)
+      (Law.dielectric_loss_most loss_product (B_range ac).most (insulation_log_range fine).least)
+      (lit≤ tt)
+
+  pub conductors_apart : Field.sheath_diameter x ≤ Field.spacing x → Field.conductor_diameter x ≤ Field.spacing x
+  conductors_apart apart = omega (arith, fine.core, fine.insulated, ac.sheathed)
+
+  -- after refusal 8, where the conductors do not overlap
+  module _ (zs≤ : zs x ≤ skin_limit) (zp≤ : zp x ≤ skin_limit) (spaced : Field.conductor_diameter x ≤ Field.spacing x) where
+    pub u_most : spacing_ratio (Field.conductor_diameter x) (Field.spacing x) ≤ 1000000000000
+    u_most = Law.spacing_ratio_most (omega (arith, ac.spacing)) spaced
+
+    pub yp_most : yp x ≤ most_proximity_factor
+    unfolding yp
+    yp_most = Law.proximity_factor_most u_most (G_most fine zs≤ zp≤)
+
+    pub R_range : In least_conductor_resistance most_ac_resistance (R x)
+    unfolding R
+    R_range = Law.ac_resistance_range (R'_range fine) (ys_most fine zs≤ zp≤) yp_most

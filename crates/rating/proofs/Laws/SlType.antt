@@ -20,12 +20,12 @@ use Rattle.rating.specs.Values.{Rs, RA, B, X, XLow}
 use Rattle.rating.specs.Chosen.{Chosen, B*, X*}
 use Rattle.rating.specs.SlType.{armour_limits, sl_type}
 use Rattle.rating.specs.Allowed.{Allowed}
-use Rattle.rating.specs.Laws.Sound.{InZ}
+use Rattle.rating.specs.Laws.Sound.{InZ, Alternating}
 use Rattle.rating.proofs.Laws.Sound.{in_range, in_range_z}
 use Rattle.rating.specs.Laws.Fit.{Fit}
 use Rattle.rating.proofs.Laws.Ranges.{Rs_range, X_range, X_low_range, conductors_apart}
 use Rattle.rating.proofs.Laws.Close.{X_close, X_low_close}
-use Rattle.rating.proofs.Laws.Arrangement.{Lawful, three_in_range, alternating_in_range, alternating_close}
+use Rattle.rating.proofs.Laws.Arrangement.{Lawful, three_in_range}
 
 pub record Armoured (x : List ℕ) : Type 0 where
   pub metal : In 1 6 (Field.armour_metal x)
@@ -34,6 +34,10 @@ pub record Armoured (x : List ℕ) : Type 0 where
   pub diameter : In 100 50000 (Field.armour_diameter x)
   pub distance : 2 * Field.axis_distance x ≤ Field.armour_diameter x
   pub apart : Field.sheath_diameter x ≤ Field.spacing x
+
+pub sl_alternating : {x : List ℕ} → Fit sl_type x → Alternating x
+unfolding sl_type
+sl_alternating fit = fit.alternating refl
 
 pub armoured : {x : List ℕ} → Fit sl_type x → Armoured x
 unfolding sl_type armour_limits
@@ -58,8 +62,11 @@ module _ {x : List ℕ} (fit : Fit sl_type x) where
   known : Armoured x
   known = armoured fit
 
+  ac : Alternating x
+  ac = sl_alternating fit
+
   spaced : Field.conductor_diameter x ≤ Field.spacing x
-  spaced = conductors_apart fit.sound known.apart
+  spaced = conductors_apart fit.sound ac known.apart
 
   pub RA_range : In least_sheath_resistance most_resistance (RA x)
   unfolding RA
@@ -78,9 +85,8 @@ module _ {x : List ℕ} (fit : Fit sl_type x) where
     S_close : Within 40000 (whole 2000) (sl_loss* (X* x c) (Rs x)) (whole (sl_loss (X x) (Rs x)))
     unfolding sl_type
     S_close =
-        let fine = fit.sound in
         within_weaken (lit≤ tt) (whole_mono (lit≤ tt))
-        (sl_close (X_range fine known.apart).least (Rs_range fine) (X_close allowed fine refl known.apart))
+        (sl_close (X_range ac known.apart).least (Rs_range ac) (X_close allowed refl fit.sound ac refl known.apart))
 
     W_close :
         Within 40000 (whole 2000)
@@ -88,20 +94,23 @@ module _ {x : List ℕ} (fit : Fit sl_type x) where
         (whole (armour_loss (RA x) (B x) (Field.axis_distance x) (Field.armour_diameter x) (XLow x) (Rs x)))
     unfolding sl_type B* B
     W_close =
-        let fine = fit.sound in
         within_weaken (lit≤ tt) (whole_mono (lit≤ tt))
-        (armour_close (Field.axis_distance x) allowed.pi fine.frequency RA_range (omega (arith, known.diameter)) known.distance
-        (X_low_range fine known.apart).least
-        (Rs_range fine)
-        (X_low_close allowed fine refl known.apart))
+        (armour_close (Field.axis_distance x) (allowed.pi refl) ac.frequency RA_range (omega (arith, known.diameter)) known.distance
+        (X_low_range ac known.apart).least
+        (Rs_range ac)
+        (X_low_close allowed refl fit.sound ac refl known.apart))
 
 pub sl_type_lawful : Lawful sl_type
 unfolding sl_type
 sl_type_lawful =
     record {
+      reacts = λ reactive. refl;
+      eddies = λ tried. refl;
       apart = λ {x} reactive placed. leb-true _ _ (both (leb (Field.sheath_diameter x) (Field.spacing x)) _ placed).0;
-      spaced = spaced;
-      in_range =
-          λ {x} fit. alternating_in_range fit (spaced fit) three_in_range (Law.sl_loss_most (X x) (Rs_range fit.sound).most) (W_most fit);
-      close = λ allowed fit. alternating_close fit (spaced fit) three_in_range allowed (S_close fit allowed) (W_close fit allowed);
+      spaced = λ alternates fit. spaced fit;
+      n = λ known. three_in_range;
+      S = λ {x} fit. Law.sl_loss_most (X x) (Rs_range (sl_alternating fit)).most;
+      W = W_most;
+      S_close = λ allowed fit. S_close fit allowed;
+      W_close = λ allowed fit. W_close fit allowed;
     }

@@ -1,20 +1,21 @@
 -- What a case promises once no refusal of the fields is given: each limit and each relation that every arrangement asks for as a fact,
 -- which the stages and the bounds on them take. What an arrangement asks for besides stays a test, which its own laws open. Assumes
 -- nothing.
-use Rattle.std.specs.Prelude.{◌≡◌, refl, Bool, true, false, cond, not, ◌||◌, List, ℕ, suc, T, eqb, leb, ℤ, ◌≤ℤ◌}
+use Rattle.std.specs.Prelude.{◌≡◌, refl, Bool, true, false, cond, not, ◌||◌, List, ℕ, suc, T, eqb, leb, ◌≤◌, ℤ, ◌≤ℤ◌}
 use Rattle.std.proofs.Math.Path.{subst⁻¹}
-use Rattle.std.proofs.Common.{true≢false, suc-ne-zero, eqb-true, leb-true, lit≤}
+use Rattle.std.proofs.Common.{ap, true≢false, suc-ne-zero, eqb-true, leb-true, lit≤}
 use Rattle.std.specs.Int.Signed.{le_z, le_z_yes}
 use Rattle.bools.specs.First.{or_refused}
 use Rattle.bools.proofs.Laws.Tests.{both, other_of, either_by}
 use Rattle.formulas.specs.Soil.{soil_ratio}
 use Rattle.formulas.specs.Laws.Ranges.{In}
+use Rattle.fields.specs.Fields as Field
 use Rattle.rating.specs.Within.{within, within_z}
 use Rattle.rating.specs.FieldRefusals.{
   arrangement_refused,
   conductor_refused,
   conductor_limits,
-  sheath_limits,
+  alternating_limits,
   thermal_limits,
   moist,
   further_limits,
@@ -27,7 +28,7 @@ use Rattle.rating.specs.FieldRefusals.{
   field_refusals,
   field_refusal,
 }
-use Rattle.rating.specs.Laws.Sound.{InZ, Sound}
+use Rattle.rating.specs.Laws.Sound.{InZ, Alternating, Sound}
 
 -- Tests that were passed, as facts.
 
@@ -92,30 +93,45 @@ ratio_range ρ e =
     either_by (In 1000 5000) (eqb ρ 0) (λ none. record { least = lit≤ tt; most = lit≤ tt })
     (λ some. in_range 1000 5000 ρ (other_of (eqb ρ 0) (within 1000 5000 ρ) e some))
 
+alternating : {x : List ℕ} → alternating_limits x ≡ true → Field.insulation_diameter x ≤ Field.sheath_diameter x → Alternating x
+unfolding alternating_limits
+alternating passes sheathed =
+    -- fields 2, 7 and 11 to 16, from the last
+    let temperature = both _ _ passes in
+    let resistance = both _ _ temperature.0 in
+    let metal = both _ _ resistance.0 in
+    let diameter = both _ _ metal.0 in
+    let loss = both _ _ diameter.0 in
+    let permittivity = both _ _ loss.0 in
+    let spacing = both _ _ permittivity.0 in
+    record {
+      frequency = in_range _ _ _ spacing.0;
+      spacing = in_range _ _ _ spacing.1;
+      permittivity = in_range _ _ _ permittivity.1;
+      loss_factor = in_range _ _ _ loss.1;
+      sheath_diameter = in_range _ _ _ diameter.1;
+      sheath_metal = in_range _ _ _ metal.1;
+      sheath_resistance = in_range _ _ _ resistance.1;
+      sheath_temperature = in_range_z _ _ _ temperature.1;
+      sheathed = sheathed;
+    }
+
 pub sound : (x : List ℕ) → field_refusal x ≡ 0 → Sound x
-unfolding conductor_refused limit_refused conductor_limits sheath_limits thermal_limits further_limits moist
-    geometry_refused heat_refused isotherm_refused sun_refused
+unfolding conductor_refused limit_refused conductor_limits thermal_limits further_limits moist geometry_refused heat_refused
+    isotherm_refused sun_refused
 sound x none_given =
     let given : Unrefused x = unrefused x none_given in
     let its_own = both _ _ (holds _ given.limits) in
     let further = both _ _ its_own.0 in
     let thermal = both _ _ further.0 in
-    let sheath = both _ _ thermal.0 in
-    -- fields 2 to 9, from the last
-    let insulation = both _ _ sheath.0 in
+    let by_current = both _ _ thermal.0 in
+    -- fields 3 to 6 and 8 to 10, from the last
+    let voltage = both _ _ by_current.0 in
+    let insulation = both _ _ voltage.0 in
     let screen = both _ _ insulation.0 in
-    let spacing = both _ _ screen.0 in
-    let diameter = both _ _ spacing.0 in
+    let diameter = both _ _ screen.0 in
     let resistance = both _ _ diameter.0 in
     let ambient = both _ _ resistance.0 in
-    let frequency = both _ _ ambient.0 in
-    -- fields 10 to 16, from the last
-    let sheath_temperature = both _ _ sheath.1 in
-    let sheath_resistance = both _ _ sheath_temperature.0 in
-    let sheath_metal = both _ _ sheath_resistance.0 in
-    let sheath_diameter = both _ _ sheath_metal.0 in
-    let loss = both _ _ sheath_diameter.0 in
-    let voltage = both _ _ loss.0 in
     -- fields 22 to 25, from the last
     let t4 = both _ _ thermal.1 in
     let t3 = both _ _ t4.0 in
@@ -131,20 +147,12 @@ sound x none_given =
     let rise = both _ _ (both _ _ (holds _ given.heat)).0 in
     record {
       conductor = in_range _ _ _ (holds _ given.conductor);
-      frequency = in_range _ _ _ frequency.0;
-      hot = in_range_z _ _ _ frequency.1;
+      hot = in_range_z _ _ _ ambient.0;
       ambient = in_range_z _ _ _ ambient.1;
       resistance = in_range _ _ _ resistance.1;
-      spacing = in_range _ _ _ spacing.1;
       screen_diameter = in_range _ _ _ screen.1;
       insulation_diameter = in_range _ _ _ insulation.1;
-      voltage = in_range _ _ _ voltage.0;
-      permittivity = in_range _ _ _ voltage.1;
-      loss_factor = in_range _ _ _ loss.1;
-      sheath_diameter = in_range _ _ _ sheath_diameter.1;
-      sheath_metal = in_range _ _ _ sheath_metal.1;
-      sheath_resistance = in_range _ _ _ sheath_resistance.1;
-      sheath_temperature = in_range_z _ _ _ sheath_temperature.1;
+      voltage = in_range _ _ _ voltage.1;
       t1 = in_range _ _ _ t1.0;
       t2 = in_range _ _ _ t1.1;
       t3 = in_range _ _ _ t3.1;
@@ -154,10 +162,13 @@ sound x none_given =
       solar_heat = in_range _ _ _ solar_heat.1;
       core = leb-true _ _ core.0;
       insulated = leb-true _ _ core.1;
-      sheathed = leb-true _ _ sheathed.1;
       rise = le_z_true _ _ rise.0;
       isotherm_between = λ dries. in_range_z _ _ _ (other_of _ _ (holds _ given.isotherm) dries);
       shaded = λ dries. eqb-true _ _ (other_of _ _ (holds _ given.sun) dries);
+      alternating =
+          λ alternates.
+          let not_direct = ap not alternates in
+          alternating (other_of _ _ by_current.1 not_direct) (leb-true _ _ (other_of _ _ sheathed.1 not_direct));
       known = holds _ given.arrangement;
       limits = its_own.1;
       geometry = placed.1;

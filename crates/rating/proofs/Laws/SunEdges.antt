@@ -45,19 +45,21 @@ use Rattle.rating.specs.Values.{
   permitted_of,
   solar_rise_of,
 }
-use Rattle.rating.specs.Arrangement.{axis_limits, no_armour, armourless, alternating}
+use Rattle.rating.specs.Arrangement.{axis_limits, no_armour, armourless}
 use Rattle.rating.specs.BothEnds.{both_ends}
 use Rattle.rating.specs.OnePoint.{one_point}
 use Rattle.rating.specs.SlType.{armour_limits, sl_type}
 use Rattle.rating.specs.CommonSheath.{common_sheath}
+use Rattle.rating.specs.DirectCurrent.{no_alternating, direct_current}
 use Rattle.rating.specs.Arrangements.{no_arrangement, arrangement_of}
 use Rattle.rating.specs.Stage10.{numbers_of, d0, N, E, current_of}
 use Rattle.rating.specs.Rate.{refused, sheet_of, rated, loaded, judged, rate_of}
+use Rattle.rating.specs.Current.{R_of, Wd_of}
 use Rattle.rating.specs.FieldRefusals.{
   conductor_refused,
   limit_refused,
   conductor_limits,
-  sheath_limits,
+  alternating_limits,
   thermal_limits,
   moist,
   further_limits,
@@ -68,6 +70,7 @@ use Rattle.rating.specs.FieldRefusals.{
   isotherm_refused,
   sun_refused,
   metal_refused,
+  direct_voltage_refused,
   field_refusals,
   field_refusal,
 }
@@ -92,12 +95,12 @@ pub record SunEdges : Type 0 where
   -- 3: field 29 has its limits, in each arrangement
   pub heat_passes_3 : map (λ heat. limit_refused (having 29 heat)) (0 ∷ 1 ∷ 200000 ∷ []) ≡ false ∷ false ∷ false ∷ []
   pub heat_gets_3 : map (λ heat. limit_refused (having 29 heat)) (200001 ∷ 4294967295 ∷ []) ≡ true ∷ true ∷ []
-  pub most_in_each : map (λ x. field_refusal (set x 29 200000)) each ≡ replicate 6 0
-  pub above_in_each : map (λ x. field_refusal (set x 29 200001)) each ≡ replicate 6 3
-  pub last_word_in_each : map (λ x. field_refusal (set x 29 4294967295)) each ≡ replicate 6 3
+  pub most_in_each : map (λ x. field_refusal (set x 29 200000)) each ≡ replicate 7 0
+  pub above_in_each : map (λ x. field_refusal (set x 29 200001)) each ≡ replicate 7 3
+  pub last_word_in_each : map (λ x. field_refusal (set x 29 4294967295)) each ≡ replicate 7 3
   -- 4 spares it, whatever stands there
   pub heat_passes_4 : map (λ heat. stray_refused (having 29 heat)) (1 ∷ 200001 ∷ 4294967295 ∷ []) ≡ false ∷ false ∷ false ∷ []
-  pub spared_in_each : map (λ x. stray_refused (set x 29 4294967295)) each ≡ replicate 6 false
+  pub spared_in_each : map (λ x. stray_refused (set x 29 4294967295)) each ≡ replicate 7 false
   -- 32: neither ρ nor field 29 is 0; a ρ of 1000 is not 0
   pub moist_passes_32 : map (λ heat. sun_refused (heated 0 heat)) (0 ∷ 1 ∷ 200000 ∷ []) ≡ false ∷ false ∷ false ∷ []
   pub shade_passes_32 : map (λ ρ. sun_refused (heated ρ 0)) (1 ∷ 1000 ∷ 5000 ∷ []) ≡ false ∷ false ∷ false ∷ []
@@ -105,9 +108,9 @@ pub record SunEdges : Type 0 where
   pub most_heat_gets_32 : map (λ ρ. sun_refused (heated ρ 200000)) (1 ∷ 1000 ∷ 1001 ∷ 5000 ∷ []) ≡ true ∷ true ∷ true ∷ true ∷ []
   pub on_the_bridge : map field_refusal (bridge ∷ sunlit ∷ sunlit_dry ∷ []) ≡ 0 ∷ 0 ∷ 32 ∷ []
   -- and so in each arrangement
-  pub refused_in_each : map (λ x. field_refusal (set (set (set x 27 1000) 28 3500) 29 1)) each ≡ replicate 6 32
+  pub refused_in_each : map (λ x. field_refusal (set (set (set x 27 1000) 28 3500) 29 1)) each ≡ replicate 7 32
   -- of two the earlier: 1 and 2 before 3 by field 29, and that before the others
-  pub arrangement_before_limit : too_hot 0 7 ≡ 1
+  pub arrangement_before_limit : too_hot 0 8 ≡ 1
   pub conductor_before_limit : too_hot 1 9 ≡ 2
   pub limit_before_stray : too_hot 17 1 ≡ 3
   pub limit_before_geometry : too_hot 7 1849 ≡ 3
@@ -116,7 +119,7 @@ pub record SunEdges : Type 0 where
   pub limit_before_sun : field_refusal (heated 2500 200001) ≡ 3
   pub limit_before_metal : field_refusal (set wrong_metal 29 200001) ≡ 3
   -- 1 to 6 and 31 before 32
-  pub arrangement_before_sun : misplaced 0 7 ≡ 1
+  pub arrangement_before_sun : misplaced 0 8 ≡ 1
   pub conductor_before_sun : misplaced 1 9 ≡ 2
   pub loss_voltage_before_sun : misplaced 26 300001 ≡ 3
   pub ratio_before_sun : misplaced 27 999 ≡ 3
@@ -130,9 +133,10 @@ pub record SunEdges : Type 0 where
   pub sun_before_metals : field_refusal (set (set (set aluminium 27 2500) 28 3500) 29 1) ≡ 32
 
 pub sun_edges : SunEdges
-unfolding or_refused field_refusals conductor_refused limit_refused conductor_limits sheath_limits thermal_limits moist further_limits
-    isotherm_unused stray_refused geometry_refused heat_refused isotherm_refused sun_refused metal_refused arrangement_of no_arrangement
-    both_ends one_point sl_type armour_limits common_sheath axis_limits no_armour armourless
+unfolding or_refused field_refusals conductor_refused limit_refused conductor_limits alternating_limits thermal_limits moist
+    further_limits isotherm_unused stray_refused geometry_refused heat_refused isotherm_refused sun_refused metal_refused
+    direct_voltage_refused arrangement_of no_arrangement both_ends one_point sl_type armour_limits common_sheath axis_limits no_armour
+    armourless no_alternating direct_current
 sun_edges =
     record {
       heat_passes_3 = refl;
@@ -219,15 +223,15 @@ pub record SunValues : Type 0 where
   pub sun_before_current : (rate_of (set cooled 29 1)).number ≡ 32
 
 pub sun_values : SunValues
-unfolding rated sheet_of refused loaded judged or_refused field_refusals conductor_refused limit_refused conductor_limits sheath_limits
-    thermal_limits moist further_limits isotherm_unused stray_refused geometry_refused heat_refused isotherm_refused sun_refused
-    metal_refused arrangement_of one_point common_sheath axis_limits no_armour armourless alternating skin_refused eddy_refused
-    dielectric_refused current_refused R' Rs B zs zp ys G yp R loss_counts Wd rise_of isotherm_rise_of soil_T4 permitted_of solar_rise_of
-    d0 N E current_of soil_ratio soil_resistance permitted_rise conductor_metal temperature_factor resistance reactance skin_reactance
-    skin_ratio skin_ratio_squared factor skin_factor spacing_ratio proximity_h proximity_g proximity_factor ac_resistance log_low
-    thirteen_terms series first_power doubled octaves doublings dielectric_loss dielectric_resistance dielectric_rise solar_rise
-    current_rise unit_rise rating root pi_high ln2_low tera up down common_loss axis_ratio axis_ratio_squared common_ratio
-    common_ratio_squared is_first first_formula second_formula
+unfolding rated sheet_of refused loaded judged or_refused field_refusals conductor_refused limit_refused conductor_limits
+    alternating_limits thermal_limits moist further_limits isotherm_unused stray_refused geometry_refused heat_refused isotherm_refused
+    sun_refused metal_refused direct_voltage_refused arrangement_of one_point common_sheath axis_limits no_armour armourless R_of Wd_of
+    skin_refused eddy_refused dielectric_refused current_refused R' Rs B zs zp ys G yp R loss_counts Wd rise_of isotherm_rise_of soil_T4
+    permitted_of solar_rise_of d0 N E current_of soil_ratio soil_resistance permitted_rise conductor_metal temperature_factor resistance
+    reactance skin_reactance skin_ratio skin_ratio_squared factor skin_factor spacing_ratio proximity_h proximity_g proximity_factor
+    ac_resistance log_low thirteen_terms series first_power doubled octaves doublings dielectric_loss dielectric_resistance
+    dielectric_rise solar_rise current_rise unit_rise rating root pi_high ln2_low tera up down common_loss axis_ratio axis_ratio_squared
+    common_ratio common_ratio_squared is_first first_formula second_formula
 sun_values =
     record {
       none = refl;

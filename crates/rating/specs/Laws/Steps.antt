@@ -11,13 +11,13 @@ use Rattle.formulas.specs.Laws.Bounds.{most_reactance, most_spacing_log}
 use Rattle.formulas.specs.Laws.Ranges.{In}
 use Rattle.fields.specs.Fields as Field
 use Rattle.rating.specs.Values.{R', zs, zp, ys, yp, R, soil_T4, permitted_of}
-use Rattle.rating.specs.Arrangement.{Arrangement, alternating}
+use Rattle.rating.specs.Arrangement.{Arrangement}
 use Rattle.rating.specs.Arrangements.{own}
 use Rattle.rating.specs.FieldRefusals.{field_refusal}
 use Rattle.rating.specs.Stage10 as Stage10
 use Rattle.rating.specs.Stage10.{E}
 use Rattle.rating.specs.Rate.{refused, rate_of}
-use Rattle.rating.specs.Laws.Sound.{InZ}
+use Rattle.rating.specs.Laws.Sound.{InZ, Alternating}
 use Rattle.rating.specs.Laws.Fit.{Fit}
 
 -- the limits of a metal's resistance at 20 °C, its code, and its temperature
@@ -36,6 +36,7 @@ pub record IsThermal (x : List ℕ) (t : Thermal) : Type 0 where
 -- what ys, yp and R are worked out from, after refusal 8
 pub record ConductorTakes (x : List ℕ) (rc skin proximity : ℕ) : Type 0 where
   pub fit : Fit (own x) x
+  pub alternates : (own x).alternates ≡ true
   pub rc_is : rc ≡ R' x
   pub skin_is : skin ≡ zs x
   pub proximity_is : proximity ≡ zp x
@@ -53,6 +54,7 @@ Refuses x refusal = rate_of x ≡ refused (number_of refusal)
 -- a is an arrangement, and r holds what it asks of the case x
 pub record Asks (a : Arrangement) (x : List ℕ) (r : Rules) : Type 0 where
   pub known : a.known ≡ true
+  pub alternates : r.alternates ≡ a.alternates
   pub limits : r.limits ≡ a.limits x
   pub unused : r.unused ≡ a.unused x
   pub geometry : r.geometry ≡ a.geometry x
@@ -64,17 +66,20 @@ pub record Asks (a : Arrangement) (x : List ℕ) (r : Rules) : Type 0 where
 abbrev pub ChecksFields : List ℕ → Result (Unit {0}) Refusal → Type 0
 ChecksFields x r = MatchResult r (λ _. field_refusal x ≡ 0) (λ refusal. field_refusal x ≡ number_of refusal)
 
--- what an end of the sheath's reactance is worked out from: sheaths that do not overlap, and that end of B
+-- what an end of the sheath's reactance is worked out from: an alternating current, sheaths that do not overlap, and that end of B
 pub record SheathReactanceTakes (spacing_log : ℕ → ℕ → ℕ → ℕ) (x : List ℕ) (b : ℕ) : Type 0 where
+  pub alternating : Alternating x
   pub apart : Field.sheath_diameter x ≤ Field.spacing x
   pub log_most : spacing_log (Field.arrangement x) (Field.spacing x) (Field.sheath_diameter x) ≤ most_spacing_log
   pub b_most : b ≤ most_reactance
 
--- l holds n, RA, X, S and W of the case x in the arrangement a, whose current alternates
+-- l holds n, RA, X, S and W of the case x in the arrangement a
 pub record Loses (a : Arrangement) (x : List ℕ) (l : Losses) : Type 0 where
-  pub numbers_are : a.numbers x ≡ alternating l.n l.s l.w x
+  pub n_is : l.n ≡ a.n
   pub ra_is : l.ra ≡ a.RA x
   pub x_is : l.x ≡ a.X x
+  pub s_is : l.s ≡ a.S x
+  pub w_is : l.w ≡ a.W x
 
 -- the permitted rise, d0, which refusal 10 lets pass, and E of the case x
 pub record Warms (x : List ℕ) (permitted d0 e : ℕ) : Type 0 where

@@ -9,6 +9,10 @@ pub returns-then-not-rules : goal.returns-then-not-rules
 unfolding or_refused field_refusals metal_refused
 returns-then-not-rules c = search rules
 
+pub returns-then-direct_voltage_refused : goal.returns-then-direct_voltage_refused
+unfolding or_refused field_refusals metal_refused
+returns-then-direct_voltage_refused c = search rules
+
 pub returns : goal.returns
 unfolding or_refused field_refusals metal_refused
 returns c = search rules

@@ -5,7 +5,7 @@ use Rattle.formulas.specs.Proximity.{spacing_ratio, proximity_factor, ac_resista
 use Rattle.fields.specs.Fields as Field
 use Rattle.rating.specs.Values.{zs, zp, ys, G, yp, R}
 use Rattle.rating.proofs.Laws.Ranges.{R'_range, ys_most, G_most, u_most, yp_most}
-use Rattle.rating.proofs.Laws.Stage10.{spaced}
+use Rattle.rating.proofs.Laws.Current.{spaced}
 use Rattle.rating.proofs.case.SoundCase.conduction.Goals as goal
 use Rattle.rating.proofs.case.SoundCase.conduction.Goals.{After-factor, After-factor-ys, After-proximity_factor-yp, After-spacing_ratio-u}
 
@@ -37,30 +37,34 @@ yp_is c u g = c.proximity_factor-yp.ensures ∙ (λ i. proximity_factor (u i) (g
 pub spacing_ratio-u-requires : goal.spacing_ratio-u-requires
 spacing_ratio-u-requires c =
     let fit = c.requires.fit in
-    omega (arith, c.from-2.ensures, c.from.ensures, fit.sound.spacing, spaced fit)
+    let ac = c.requires.alternates in
+    omega (arith, c.from-2.ensures, c.from.ensures, (fit.alternating ac).spacing, spaced fit ac)
 
 pub proximity_factor-yp-requires : goal.proximity_factor-yp-requires
 proximity_factor-yp-requires c =
     let fit = c.requires.fit in
+    let ac = c.requires.alternates in
     record {
       u_most = omega (
         arith,
         u_is (goal.at.proximity_factor-yp-requires c).After-spacing_ratio-u,
-        u_most fit.sound fit.skin fit.proximity (spaced fit),
+        u_most fit.sound (fit.alternating ac) (fit.skin ac) (fit.proximity ac) (spaced fit ac),
       );
-      factor_most = omega (arith, g_is c, G_most fit.sound fit.skin fit.proximity);
+      factor_most = omega (arith, g_is c, G_most fit.sound (fit.skin ac) (fit.proximity ac));
     }
 
 pub ac_resistance-requires : goal.ac_resistance-requires
 ac_resistance-requires c =
     let fit = c.requires.fit in
+    let ac = c.requires.alternates in
     let ys = ys_is (goal.at.ac_resistance-requires c).After-factor-ys in
     let u = u_is (goal.at.ac_resistance-requires c).After-spacing_ratio-u in
     let g = g_is (goal.at.ac_resistance-requires c).After-factor in
     record {
       rc_most = omega (arith, c.requires.rc_is, R'_range fit.sound);
-      ys_most = omega (arith, ys, ys_most fit.sound fit.skin fit.proximity);
-      yp_most = omega (arith, yp_is c u g, yp_most fit.sound fit.skin fit.proximity (spaced fit));
+      ys_most = omega (arith, ys, ys_most fit.sound (fit.skin ac) (fit.proximity ac));
+      yp_most =
+          omega (arith, yp_is c u g, yp_most fit.sound (fit.alternating ac) (fit.skin ac) (fit.proximity ac) (spaced fit ac));
     }
 
 pub returns : goal.returns

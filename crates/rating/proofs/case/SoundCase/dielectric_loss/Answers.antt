@@ -18,11 +18,12 @@ log_is c =
 pub dielectric_loss-requires : goal.dielectric_loss-requires
 dielectric_loss-requires c =
     let fine = c.args.self.now.sound in
+    let ac = fine.alternating c.requires.alternates in
     record {
-      e_most = omega (arith, c.from.ensures, fine.permittivity);
+      e_most = omega (arith, c.from.ensures, ac.permittivity);
       u0_most = omega (arith, c.from-2.ensures, fine.voltage);
-      t_most = omega (arith, c.from-3.ensures, fine.loss_factor);
-      b_most = omega (arith, c.requires, B_range fine);
+      t_most = omega (arith, c.from-3.ensures, ac.loss_factor);
+      b_most = omega (arith, c.requires.b_is, B_range ac);
       l_least = omega (arith, log_is c, insulation_log_range fine);
       l_most = omega (arith, log_is c, insulation_log_range fine);
     }

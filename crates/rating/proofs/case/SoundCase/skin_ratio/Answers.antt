@@ -9,7 +9,7 @@ skin_ratio-requires c =
     record {
       reactance =
           record {
-            f_most = omega (arith, c.from.ensures, fine.frequency);
+            f_most = omega (arith, c.from.ensures, (fine.alternating c.requires.alternates).frequency);
             k_most = omega (arith, c.from-2.ensures, c.requires.k_most);
           };
       rc_least = omega (arith, c.requires.rc_is, R'_range fine);

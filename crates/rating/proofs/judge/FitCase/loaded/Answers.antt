@@ -1,16 +1,14 @@
 -- `loaded` is the definition: refusals 10 and 11 are its tests, and the sheet is in order.
-use Rattle.std.proofs.Common.{[], ap, arith, le-ltb, lt-ltb, ltb, subst, sym, ◌+◌, ◌*◌, ◌∙◌, ◌∷◌, ◌≡◌}
+use Rattle.std.proofs.Common.{[], ap, arith, le-ltb, lt-ltb, ltb, sym, ◌+◌, ◌*◌, ◌∙◌, ◌∷◌, ◌≡◌}
 use Rattle.formulas.specs.Refusals as Test
-use Rattle.rating.specs.Arrangement.{alternating}
 use Rattle.rating.specs.Arrangements.{own}
 use Rattle.rating.specs.Laws.Steps.{Loses}
 use Rattle.rating.proofs.Own.{loses}
 use Rattle.rating.specs.StageRefusals.{dielectric_refused}
-use Rattle.rating.specs.Stage10.{numbers_of, d0}
+use Rattle.rating.specs.Stage10.{d0}
 use Rattle.rating.specs.Rate.{refused, rated, loaded, sheet_of}
 use Rattle.rating.proofs.Laws.Ranges.{permitted_range}
-use Rattle.rating.proofs.Laws.Arrangement.{InRange}
-use Rattle.rating.proofs.Laws.Stage10.{numbers_in_range, d0_most}
+use Rattle.rating.proofs.Laws.Stage10.{d0_most}
 use Rattle.rating.proofs.judge.FitCase.loaded.Goals as goal
 use Rattle.rating.proofs.judge.FitCase.loaded.Goals.{After-losses-l, After-dielectric_rise-dd, After-solar_rise, After-permitted-permitted}
 
@@ -18,15 +16,11 @@ use Rattle.rating.proofs.judge.FitCase.loaded.Goals.{After-losses-l, After-diele
 own_losses : (c : After-losses-l) → Loses (own c.args.self.now.case.x) c.args.self.now.case.x c.losses-l.result
 own_losses c = loses c.args.self.now.case.has c.losses-l.ensures
 
-dd_is : (c : After-dielectric_rise-dd) → c.dielectric_rise-dd.result ≡ (numbers_of c.args.self.now.case.x).dd
-unfolding alternating
-dd_is c = c.dielectric_rise-dd.ensures ∙ sym (ap (λ ν. ν.dd) (own_losses c.before.before).numbers_are)
-
 -- what the code adds up is d0
 d0_is : (c : After-solar_rise) → c.dielectric_rise-dd.result + c.solar_rise.result ≡ d0 c.args.self.now.case.x
 unfolding d0
 d0_is c =
-    let dd = dd_is c.before in
+    let dd = c.dielectric_rise-dd.ensures in
     let sun = c.solar_rise.ensures in
     λ i. dd i + sun i
 
@@ -42,13 +36,8 @@ hot c =
     λ i. ltb (9 * permitted i) (10 * weighed i)
 
 pub dielectric_rise-dd-requires : goal.dielectric_rise-dd-requires
-unfolding alternating
 dielectric_rise-dd-requires c =
-    let l = c.losses-l.result in
-    let ν : InRange (alternating l.n l.s l.w c.args.self.now.case.x) =
-    subst InRange (own_losses (goal.at.dielectric_rise-dd-requires c).After-losses-l).numbers_are (numbers_in_range c.args.self.now.fit)
-    in
-    record { n_most = ν.n.most; t_is = c.thermal-t.ensures }
+    record { n_is = (own_losses (goal.at.dielectric_rise-dd-requires c).After-losses-l).n_is; t_is = c.thermal-t.ensures }
 
 pub overflow_mul-permitted : goal.overflow_mul-permitted
 overflow_mul-permitted c = omega (arith, c.permitted-permitted.ensures, permitted_range c.args.self.now.fit.sound)
@@ -84,13 +73,10 @@ returns-then-i-gt-MOST_CURRENT c =
     ∙ simp (hot (goal.at.returns-then-i-gt-MOST_CURRENT c).After-permitted-permitted ∙ le-ltb _ _ c.if-permitted-d0.false, over))
 
 pub returns : goal.returns
-unfolding loaded Test.current_refused rated sheet_of alternating
+unfolding loaded Test.current_refused rated sheet_of
 returns c =
     let p = c.args.self.now in
     let l = own_losses (goal.at.returns c).After-losses-l in
-    let r = p.r_is ∙ sym (ap (λ ν. ν.R) l.numbers_are) in
-    let s = sym (ap (λ ν. ν.S) l.numbers_are) in
-    let w = sym (ap (λ ν. ν.W) l.numbers_are) in
     let under = ap (ltb 5000000) (sym c.current-i.ensures) ∙ le-ltb _ _ c.if-i-gt-MOST_CURRENT.false in
     simp (p.answer, hot (goal.at.returns c).After-permitted-permitted ∙ le-ltb _ _ c.if-permitted-d0.false, under)
     (λ j.
@@ -98,8 +84,9 @@ returns c =
       number = 0;
       rating = c.current-i.ensures j;
       sheet =
-          p.rc_is j ∷ p.rs_is j ∷ l.ra_is j ∷ p.b_is j ∷ p.ys_is j ∷ p.yp_is j ∷ r j ∷ l.x_is j ∷ s j ∷ w j ∷ p.wd_is j
-          ∷ dd_is (goal.at.returns c).After-dielectric_rise-dd j
+          p.rc_is j ∷ p.rs_is j ∷ l.ra_is j ∷ p.b_is j ∷ p.ys_is j ∷ p.yp_is j ∷ p.r_is j ∷ l.x_is j ∷ l.s_is j ∷ l.w_is j
+          ∷ p.wd_is j
+          ∷ c.dielectric_rise-dd.ensures j
           ∷ c.unit_rise-e.ensures j
           ∷ [];
     })

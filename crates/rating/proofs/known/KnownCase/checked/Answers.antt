@@ -10,5 +10,6 @@ invariant_of-result c =
       has = c.args.self.has;
       none_given = none_given;
       sound = sound c.args.self.x none_given;
+      alternates_is = (asks c.args.self.has c.rules-rules.ensures).alternates;
       eddies_is = (asks c.args.self.has c.rules-rules.ensures).eddies;
     }

@@ -1,5 +1,5 @@
--- Refusals 8 and 9 are the tests of the code, and what they leave fits the arrangement.
-use Rattle.std.proofs.Common.{List, Bool, false, ap, arith, eq-eqb, ltb, ltb-false, subst, sym, ℕ, ◌&&◌, ◌||◌, ◌*◌, ◌∙◌, ◌≡◌, ◌≤◌}
+-- Where the current alternates, refusals 8 and 9 are the tests of the code, and what they leave fits the arrangement.
+use Rattle.std.proofs.Common.{List, Bool, true, false, ap, arith, ltb, ltb-false, subst, sym, ℕ, ◌&&◌, ◌||◌, ◌*◌, ◌∙◌, ◌≡◌, ◌≤◌}
 use Rattle.bools.proofs.Laws.Tests.{neither, not_both}
 use Rattle.formulas.specs.Skin.{skin_ratio}
 use Rattle.formulas.specs.Refusals.{skin_refused, eddy_refused}
@@ -7,14 +7,13 @@ use Rattle.fields.specs.Fields as Field
 use Rattle.rating.specs.Values.{R', Rs, B, zs, zp}
 use Rattle.rating.specs.Arrangements.{own}
 use Rattle.rating.specs.FieldRefusals.{field_refusal}
-use Rattle.rating.specs.Rate.{loaded, judged, rate_of, rate_of_is}
+use Rattle.rating.specs.Current.{R_of, Wd_of}
+use Rattle.rating.specs.Rate.{loaded, judged, rate_of}
 use Rattle.rating.specs.Laws.Fit.{Fit}
+use Rattle.rating.proofs.Judged.{judged_next}
 use Rattle.rating.proofs.Laws.Ranges.{B_range}
-use Rattle.rating.proofs.case.SoundCase.judged.Goals as goal
-use Rattle.rating.proofs.case.SoundCase.judged.Goals.{After-skin_ratio-zp, After-sheath_resistance-rs, Else-self-rs}
-
-fields_passed : (x : List ℕ) → field_refusal x ≡ 0 → rate_of x ≡ judged x
-fields_passed x none_given = rw rate_of_is (simp (eq-eqb _ 0 none_given))
+use Rattle.rating.proofs.case.SoundCase.alternating.Goals as goal
+use Rattle.rating.proofs.case.SoundCase.alternating.Goals.{After-skin_ratio-zp, After-sheath_resistance-rs, Else-self-rs}
 
 -- z with k, which is ks or kp
 z_is :
@@ -54,25 +53,25 @@ pub returns-then-zs-zp-clause-refused : goal.returns-then-zs-zp-clause-refused
 unfolding judged
 returns-then-zs-zp-clause-refused c =
     let skin = skin (goal.at.returns-then-zs-zp-clause-refused c).After-skin_ratio-zp in
-    fields_passed c.args.self.x c.args.self.none_given ∙ simp (skin ∙ c.if-zs-zp.true)
+    judged_next c.args.self.x c.args.self.none_given ∙ simp (c.requires.alternates, skin ∙ c.if-zs-zp.true)
 
 pub overflow_mul-b : goal.overflow_mul-b
-overflow_mul-b c = omega (arith, c.reactance-b.ensures, B_range c.args.self.sound)
+overflow_mul-b c = omega (arith, c.reactance-b.ensures, B_range (c.args.self.sound.alternating c.requires.alternates))
 
 pub returns-then-self-rs-clause-refused : goal.returns-then-self-rs-clause-refused
 unfolding judged
 returns-then-self-rs-clause-refused c =
     let skin = skin (goal.at.returns-then-self-rs-clause-refused c).After-skin_ratio-zp in
     let eddy = eddy (goal.at.returns-then-self-rs-clause-refused c).After-sheath_resistance-rs in
-    fields_passed c.args.self.x c.args.self.none_given ∙ simp (skin ∙ c.if-zs-zp.false, eddy ∙ c.if-self-rs.true)
+    judged_next c.args.self.x c.args.self.none_given ∙ simp (c.requires.alternates, skin ∙ c.if-zs-zp.false, eddy ∙ c.if-self-rs.true)
 
 -- what is left once neither 8 nor 9 is given
 
 answer :
-    (x : List ℕ) → field_refusal x ≡ 0 → skin_refused (zs x) (zp x) ≡ false →
+    (x : List ℕ) → field_refusal x ≡ 0 → (own x).alternates ≡ true → skin_refused (zs x) (zp x) ≡ false →
     (own x).eddies && eddy_refused (B x) (Rs x) ≡ false → rate_of x ≡ loaded x
 unfolding judged
-answer x none_given skin eddy = fields_passed x none_given ∙ simp (skin, eddy)
+answer x none_given alternates skin eddy = judged_next x none_given ∙ simp (alternates, skin, eddy)
 
 fit : (c : Else-self-rs) → Fit (own c.args.self.x) c.args.self.x
 unfolding zs zp
@@ -85,8 +84,11 @@ fit c =
       known = fine.known;
       limits = fine.limits;
       geometry = fine.geometry;
-      skin = subst (λ z. z ≤ 7840000000000) (z_is x c.ks.ensures c.skin_ratio-zs.ensures) (ltb-false _ _ small.0);
-      proximity = subst (λ z. z ≤ 7840000000000) (z_is x c.kp.ensures c.skin_ratio-zp.ensures) (ltb-false _ _ small.1);
+      alternating = fine.alternating;
+      skin =
+          λ alternates. subst (λ z. z ≤ 7840000000000) (z_is x c.ks.ensures c.skin_ratio-zs.ensures) (ltb-false _ _ small.0);
+      proximity =
+          λ alternates. subst (λ z. z ≤ 7840000000000) (z_is x c.kp.ensures c.skin_ratio-zp.ensures) (ltb-false _ _ small.1);
       eddies =
           λ tried.
           let apart : 5 * c.reactance-b.result ≤ c.sheath_resistance-rs.result =
@@ -100,24 +102,27 @@ unfolding zs zp
 conduction-h-requires c =
     record {
       fit = fit (goal.at.conduction-h-requires c).Else-self-rs;
-      rc_is = c.conductor_resistance-rc.ensures;
+      alternates = c.requires.alternates;
+      rc_is = c.requires.rc_is;
       skin_is = z_is c.args.self.x c.ks.ensures c.skin_ratio-zs.ensures;
       proximity_is = z_is c.args.self.x c.kp.ensures c.skin_ratio-zp.ensures;
     }
 
 pub invariant_of-result : goal.invariant_of-result
+unfolding R_of Wd_of
 invariant_of-result c =
+    let ac = c.requires.alternates in
     let skin = skin (goal.at.invariant_of-result c).After-skin_ratio-zp in
     let eddy = eddy (goal.at.invariant_of-result c).After-sheath_resistance-rs in
     let h = c.conduction-h.ensures in
     record {
       fit = fit (goal.at.invariant_of-result c).Else-self-rs;
-      answer = answer c.args.self.x c.args.self.none_given (skin ∙ c.if-zs-zp.false) (eddy ∙ c.if-self-rs.false);
-      rc_is = c.conductor_resistance-rc.ensures;
-      b_is = c.reactance-b.ensures;
-      rs_is = c.sheath_resistance-rs.ensures;
-      ys_is = h.ys_is;
-      yp_is = h.yp_is;
-      r_is = h.r_is;
-      wd_is = c.dielectric_loss-wd.ensures;
+      answer = answer c.args.self.x c.args.self.none_given ac (skin ∙ c.if-zs-zp.false) (eddy ∙ c.if-self-rs.false);
+      rc_is = c.requires.rc_is;
+      b_is = c.reactance-b.ensures ∙ simp ac;
+      rs_is = c.sheath_resistance-rs.ensures ∙ simp ac;
+      ys_is = h.ys_is ∙ simp ac;
+      yp_is = h.yp_is ∙ simp ac;
+      r_is = h.r_is ∙ simp ac;
+      wd_is = c.dielectric_loss-wd.ensures ∙ simp ac;
     }

@@ -115,6 +115,15 @@ module _ (n x : ℕ) where
   rest_last : x % 10 ^ suc n % 10 ≡ x % 10
   rest_last = omega (arith, rest, within)
 
+-- the last n digits of x are those of what 10^n leaves of it
+pub padded_mod : (n x : ℕ) → padded n (x % 10 ^ n) ≡ padded n x
+unfolding padded
+padded_mod zero x = refl
+padded_mod (suc n) x =
+    ap (λ (q : ℕ). padded n q ++ ((x % 10 ^ suc n % 10 + 48) ∷ [])) (rest_tenth n x)
+    ∙ ap (λ (t : List ℕ). t ++ ((x % 10 ^ suc n % 10 + 48) ∷ [])) (padded_mod n (x / 10))
+    ∙ ap (λ (d : ℕ). padded n (x / 10) ++ ((d + 48) ∷ [])) (rest_last n x)
+
 -- the last m + n digits are the last m of x / 10^n, and the last n
 pub padded_split : (m n x : ℕ) → padded (m + n) x ≡ padded m (x / 10 ^ n) ++ padded n (x % 10 ^ n)
 unfolding padded

@@ -7,7 +7,7 @@ use Rattle.splice.proofs.Laws.Put.{put_as, put_then}
 use Rattle.decimals.specs.Decimal.{decimal, padded, PutPadded}
 use Rattle.decimals.proofs.Laws.Decimal.{padded_split, decimal_split}
 
-padded_length : (n x : ℕ) → length (padded n x) ≡ n
+pub padded_length : (n x : ℕ) → length (padded n x) ≡ n
 unfolding padded
 padded_length zero x = refl
 padded_length (suc n) x = length-append (padded n (x / 10)) _ ∙ ap (λ (k : ℕ). k + 1) (padded_length n (x / 10)) ∙ add-one n

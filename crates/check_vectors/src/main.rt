@@ -11,9 +11,10 @@ use arrayvec::ArrayString;
 use count::Count;
 use expected::{is_same, is_within};
 use input::Lines;
+use input::source::{Reader, Source};
 use rate_text::{ROOM, print_line};
 use rating::rate::rate;
-use std::io::{self, Read};
+use std::io;
 use text::line::{Said, read_line};
 
 // A case that waits for what it must get: what `rate` prints for it, and its rating.
@@ -64,7 +65,7 @@ impl Tally {
 }
 
 // Each line is a case, or what the case before it must get.
-fn compare<S: Read + Drop>(lines: Lines<S>) -> Tally {
+fn compare<S: Source + Drop>(lines: Lines<S>) -> Tally {
     let mut tally = Tally::default();
     let mut case = None;
     for (number, line) in (1..=u64::MAX).zip(lines) {
@@ -80,7 +81,7 @@ fn compare<S: Read + Drop>(lines: Lines<S>) -> Tally {
 }
 
 fn main(rt: HostRuntime) -> io::Result<()> {
-    let Tally { cases, ranges } = compare(Lines::new(rt.stdin()));
+    let Tally { cases, ranges } = compare(Lines::new(Reader(rt.stdin())));
     let Count { made, failed } = cases;
     print!(rt; "{made} cases compared, {failed} differ\n")?;
     let Count { made, failed } = ranges;

@@ -1,2 +1,5 @@
--- How many lines a stream may still have. Assumes nothing.
+-- The lines of a stream, and how many it may still have. Assumes nothing.
+pub mod Lines
 pub mod State
+pub mod Stream
+pub mod Laws

@@ -7,11 +7,12 @@ ghost use Rattle.std.specs.Prelude.{◌≤◌, length, IfSome};
 
 use arrayvec::ArrayString;
 use book::start::start;
+use input::source::{Reader, Source};
 use input::{Lines, SaidLines};
 use keep_book::{NotKept, add_word, keep_said};
 use rate_text::put_about;
 use std::env::{Env, FillError};
-use std::io::{Read, Write};
+use std::io::Write;
 
 // Argument i, if there is one, at the front of `word`, and its length; of one longer than `word` as
 // much as fits.
@@ -50,7 +51,7 @@ fn say<W: Write>(to: &mut W, number: u64, text: &str)
 
 // Each line's case appended to the book, and the book's used length, if every line could be read
 // and kept. Every unreadable line is said, and the first that the book has no room for.
-fn keep_lines<S: Read + Drop, W: Write>(
+fn keep_lines<S: Source + Drop, W: Write>(
     lines: SaidLines<S>,
     errors: &mut W,
     book: &mut [u8],
@@ -85,7 +86,7 @@ fn main(rt: HostRuntime) {
         let _ = errors.write_all(b"the note leaves no room in a book of 65536 bytes\n");
         return;
     };
-    let lines = Lines::new(rt.stdin()).said();
+    let lines = Lines::new(Reader(rt.stdin())).said();
     let Some(used) = keep_lines(lines, &mut errors, &mut book, begun) else {
         return;
     };

@@ -5,6 +5,7 @@
 
 use arrayvec::ArrayString;
 use input::Lines;
+use input::source::Reader;
 use rate_text::{ROOM, print_said};
 use std::io::Write;
 
@@ -14,7 +15,7 @@ const BUFFER: usize = 65536;
 fn main(rt: HostRuntime) {
     let mut to = rt.stdout();
     let mut out = ArrayString::<BUFFER>::new();
-    for (number, said) in (1..=u64::MAX).zip(Lines::new(rt.stdin()).said()) {
+    for (number, said) in (1..=u64::MAX).zip(Lines::new(Reader(rt.stdin())).said()) {
         print_said(&mut out, number, said);
         if out.remaining_capacity() < ROOM {
             let _ = to.write_all(out.as_str().as_bytes());

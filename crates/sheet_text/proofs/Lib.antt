@@ -1,2 +1,4 @@
 -- Laws that the proofs of single functions share. Assumes nothing.
-pub mod Points
+pub mod InOrder
+pub mod Rows
+pub mod Short

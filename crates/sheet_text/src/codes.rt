@@ -1,20 +1,8 @@
-// The fields that are codes, in words: a work sheet says beside a number which arrangement, conductor
-// or metal it stands for (docs/RATING.md has the codes).
-ghost use Rattle.std.specs.Prelude.{[], ◌≡◌, ◌≤◌, length};
+// What the codes of a case stand for, each at the place of its number. Where there is no code 0, none stands for anything there.
+ghost use Rattle.std.specs.Prelude.{◌≡◌, map};
+ghost use Rattle.sheet_text.specs.Codes as Codes;
 
-// The arrangements by the word of a case: rating's Kind has 1 and 2 as one, and a refused case may
-// have none. All; those whose current alternates; and those that have fields which others lack.
-pub const ALL: [u32; 7] = [1, 2, 3, 4, SL_TYPE, COMMON_SHEATH, 7];
-
-pub const ALTERNATING: [u32; 6] = [1, 2, 3, 4, SL_TYPE, COMMON_SHEATH];
-
-pub const SL_TYPE: u32 = 5;
-
-pub const COMMON_SHEATH: u32 = 6;
-
-// What the codes stand for, each at the place of its number. Where there is no code 0, none stands for
-// anything there.
-pub const ARRANGEMENTS: [&str; 8] = [
+pub(crate) const ARRANGEMENTS: [&str; 8] = [
     "",
     "single-core, trefoil, bonded at both ends",
     "single-core, flat, transposed, bonded at both ends",
@@ -25,7 +13,7 @@ pub const ARRANGEMENTS: [&str; 8] = [
     "single-core, direct current",
 ];
 
-pub const CONDUCTORS: [&str; 9] = [
+pub(crate) const CONDUCTORS: [&str; 9] = [
     "",
     "copper, round, dried",
     "copper, round, not dried",
@@ -37,7 +25,7 @@ pub const CONDUCTORS: [&str; 9] = [
     "aluminium, 6 segments",
 ];
 
-pub const METALS: [&str; 7] = [
+pub(crate) const METALS: [&str; 7] = [
     "none",
     "lead",
     "aluminium",
@@ -48,8 +36,8 @@ pub const METALS: [&str; 7] = [
 ];
 
 // What a code stands for, or nothing where it is none of them.
-pub fn words_of(words: &[&'static str], code: u32) -> &'static str
-    ensures { length words.now ≤ code → result.now ≡ [] }
+pub(crate) fn words_of(words: &[&'static str], code: u32) -> &'static str
+    ensures { result.now ≡ Codes.words_of (map (λ t. t.now) words.now) code }
 {
     // as: std has no From between words and usize
     match words.get(code as usize) {

@@ -1,10 +1,20 @@
-// A refusal by its number, its word and its rule (docs/RATING.md), so that a person sees what to
-// change. Not Display of Refusal: that would stand in rating, and only the sheet has these words.
-use arrayvec::ArrayString;
-use rating::refusal::Refusal;
-use std::fmt::{self, Write};
+// A refusal by its number, its word and its rule (docs/SHEET.md), so that a person sees what to change. Not Display of Refusal: that would
+// stand in rating, and only the sheet has these words.
+ghost use Rattle.std.specs.Prelude.{◌≡◌, ◌++◌, ◌+◌, ◌≤◌, length};
+ghost use Rattle.arrayvec.specs.ArrayString.{array_string_len};
+ghost use Rattle.rating.specs.Refusal.{number_of};
+ghost use Rattle.sheet_text.specs.Refusals.{refusal_of, refusal_text};
+ghost use Rattle.sheet_text.specs.Laws.Room.{refusal_room};
 
-fn word_of(refusal: Refusal) -> &'static str {
+use arrayvec::ArrayString;
+use decimals::put_decimal;
+use rating::refusal::Refusal;
+
+#[tactic(auto, unfolding(crate::specs::Refusals::refusal_rows, crate::specs::Refusals::among, crate::specs::Refusals::refusal_of))]
+fn word_of(refusal: Refusal) -> &'static str
+    ensures text { result.now ≡ (refusal_of (number_of refusal)).word }
+    ensures short { length result.now ≤ 16 }
+{
     match refusal {
         Refusal::Arrangement => "arrangement",
         Refusal::Conductor => "conductor",
@@ -23,19 +33,19 @@ fn word_of(refusal: Refusal) -> &'static str {
     }
 }
 
-fn rule_of(refusal: Refusal) -> &'static str {
+#[tactic(auto, unfolding(crate::specs::Refusals::refusal_rows, crate::specs::Refusals::among, crate::specs::Refusals::refusal_of))]
+fn rule_of(refusal: Refusal) -> &'static str
+    ensures text { result.now ≡ (refusal_of (number_of refusal)).rule }
+    ensures short { length result.now ≤ 160 }
+{
     match refusal {
         Refusal::Arrangement => "The arrangement must be one of 1 to 7.",
         Refusal::Conductor => "The conductor's code must be one of 1 to 8.",
-        Refusal::Limit =>
-            "A field is outside its limits, which stand in brackets (the armour's hold in arrangement 5, c's in 5 and 6, \
-             those of f, s, e, t, d, sheath, Rs0 and theta_s in 1 to 6).",
+        Refusal::Limit => "A field marked > is outside its limits, which stand in brackets.",
         Refusal::Stray =>
-            "These must be 0: armour, RA0, theta_A and dA in arrangements 1 to 4, 6 and 7; c in 1 to 4 and 7; \
-             f, s, e, t, d, sheath, Rs0 and theta_s in 7; theta_x where rho is 0.",
-        Refusal::Geometry =>
-            "It must be that dc <= ds and 1.05 ds <= Di; also Di <= d in arrangements 1 to 6, d <= s in 1 to 5, \
-             2 c <= dA in 5, dc <= s and 2 c <= d in 6.",
+            "A field marked > must be 0: the arrangement does not have it, or, of theta_x, rho is 0.",
+        Refusal::Geometry => "It must be that dc <= ds and 1.05 ds <= Di; \
+             also Di <= d in arrangements 1 to 6, d <= s in 1 to 5, 2 c <= dA in 5, dc <= s and 2 c <= d in 6.",
         Refusal::Heat =>
             "The conductor must be 5 K or more above the ambient, and neither sheath nor armour above it.",
         Refusal::Isotherm => "Where rho is not 0 it must be that theta_a <= theta_x <= theta_c.",
@@ -53,7 +63,17 @@ fn rule_of(refusal: Refusal) -> &'static str {
     }
 }
 
-pub fn put_refusal<const N: usize>(out: &mut ArrayString<N>, refusal: Refusal) -> fmt::Result {
-    let (number, word, rule) = (u32::from(refusal), word_of(refusal), rule_of(refusal));
-    write!(out, "REFUSED  {number} {word}\n  {rule}\n")
+#[tactic(auto, unfolding(crate::specs::Refusals::refusal_text))]
+pub(crate) fn put_refusal<const N: usize>(out: &mut ArrayString<N>, refusal: Refusal)
+    requires { array_string_len out.old + refusal_room ≤ N }
+    ensures text { out.new.bytes ≡ out.old.bytes ++ refusal_text (number_of refusal) }
+    ensures within { array_string_len out.new ≤ array_string_len out.old + refusal_room }
+{
+    out.push_str("REFUSED  ");
+    put_decimal(out, u64::from(u32::from(refusal)));
+    out.push_str(" ");
+    out.push_str(word_of(refusal));
+    out.push_str("\n  ");
+    out.push_str(rule_of(refusal));
+    out.push_str("\n");
 }

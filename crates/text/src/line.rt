@@ -99,7 +99,7 @@ fn read_text(s: &[u8]) -> Said
 }
 
 // A line without one carriage return at its end.
-fn text_of(line: &[u8]) -> &[u8]
+pub fn text_of(line: &[u8]) -> &[u8]
     ensures { result.now ≡ take (text_length line.now) line.now }
 {
     line.strip_suffix(b"\r").unwrap_or(line)

@@ -1,0 +1,2 @@
+-- Closed rows. Assumes nothing.
+pub mod Instances

@@ -1,0 +1,3 @@
+-- Laws that the proofs of single functions share. Assumes nothing.
+pub mod Digits
+pub mod Laws

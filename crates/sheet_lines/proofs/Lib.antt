@@ -1,0 +1,2 @@
+-- The laws: theorems about the definitions of specs/. Assumes nothing.
+pub mod Laws

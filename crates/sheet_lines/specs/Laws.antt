@@ -1,0 +1,2 @@
+-- What the contracts say beside the definitions. Assumes nothing.
+pub mod Room

@@ -1,0 +1,3 @@
+-- What the program `sheet` prints for a line. Assumes nothing.
+pub mod Heading
+pub mod Laws

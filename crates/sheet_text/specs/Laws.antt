@@ -1,0 +1,3 @@
+-- What the contracts say beside the definitions. Assumes nothing.
+pub mod Room
+pub mod Tables

@@ -1,48 +1,64 @@
 // Lines made by dice, without their line feeds, for comparing another
 // implementation's reading with the twin's: cases written in every way that is
 // read, and lines that are passed over or cannot be read. The kinds take turns,
-// so that each appears whatever the dice show.
+// so that each appears whatever the dice show, and comments stand between the
+// cases, so that these get headings of every kind.
 
 use crate::dice::Dice;
 use crate::drawn_cases::{drawn_case, mixed_case};
+use crate::drawn_comments::{comment, comment_too_long};
 use crate::lines::{case_line, older_line, LONGEST_LINE};
 use crate::rating::{OLDER_WIDTH, WIDTH};
 
 type Kind = fn(&mut Dice) -> Vec<u8>;
 
-/// How many of the kinds, the first ones, are cases.
-pub const CASES: usize = 11;
+/// What a kind of line is made to be read as.
+#[derive(Clone, Copy, Debug, PartialEq, Eq)]
+pub enum Made {
+    Case,
+    Passed,
+    Unreadable,
+    CaseOrNot,
+}
 
-pub const KINDS: [Kind; 24] = [
-    plain,
-    any_words,
-    older,
-    older_spread,
-    signed,
-    tabs,
-    carriage_return,
-    signed_with_tabs_and_return,
-    spread,
-    zeros_in_front,
-    greatest_length,
-    nothing,
-    blanks,
-    remark,
-    under_an_older_case,
-    over_an_older_case,
-    one_number_less,
-    one_number_more,
-    number_too_large,
-    number_too_small,
-    no_number,
-    two_returns,
-    byte_changed,
-    too_long,
+pub const KINDS: [(Made, Kind); 31] = [
+    (Made::Passed, comment),
+    (Made::Case, plain),
+    (Made::Case, any_words),
+    (Made::Passed, comment),
+    (Made::Passed, nothing),
+    (Made::Case, older),
+    (Made::Case, older_spread),
+    (Made::Passed, comment),
+    (Made::Unreadable, under_an_older_case),
+    (Made::Case, signed),
+    (Made::Unreadable, over_an_older_case),
+    (Made::Case, tabs),
+    (Made::Passed, comment),
+    (Made::Unreadable, comment_too_long),
+    (Made::Case, carriage_return),
+    (Made::Passed, blanks),
+    (Made::Case, signed_with_tabs_and_return),
+    (Made::Passed, comment),
+    (Made::Passed, comment),
+    (Made::Case, spread),
+    (Made::Case, zeros_in_front),
+    (Made::Passed, comment),
+    (Made::Case, greatest_length),
+    (Made::Unreadable, one_number_less),
+    (Made::Unreadable, one_number_more),
+    (Made::Unreadable, number_too_large),
+    (Made::Unreadable, number_too_small),
+    (Made::Unreadable, no_number),
+    (Made::Unreadable, two_returns),
+    (Made::CaseOrNot, byte_changed),
+    (Made::Unreadable, too_long),
 ];
 
 /// The line of a number, counted from 0.
 pub fn drawn_line(dice: &mut Dice, number: usize) -> Vec<u8> {
-    KINDS[number % KINDS.len()](dice)
+    let (_, kind) = KINDS[number % KINDS.len()];
+    kind(dice)
 }
 
 /// A case's numbers, those past 2^31 with a minus sign.
@@ -55,7 +71,7 @@ fn unsigned_words(dice: &mut Dice) -> Vec<String> {
     mixed_case(dice).map(|word| word.to_string()).to_vec()
 }
 
-fn chosen(dice: &mut Dice, from: &[&str]) -> String {
+pub fn chosen(dice: &mut Dice, from: &[&str]) -> String {
     from[dice.roll() as usize % from.len()].to_string()
 }
 
@@ -104,7 +120,7 @@ fn older_spread(dice: &mut Dice) -> Vec<u8> {
     spread_words(dice, &words[..OLDER_WIDTH])
 }
 
-fn spread(dice: &mut Dice) -> Vec<u8> {
+pub fn spread(dice: &mut Dice) -> Vec<u8> {
     let words = signed_words(dice);
     spread_words(dice, &words)
 }
@@ -133,7 +149,7 @@ fn greatest_length(dice: &mut Dice) -> Vec<u8> {
     line
 }
 
-// Lines that are passed over.
+// Lines that are passed over, beside comments.
 
 fn nothing(_dice: &mut Dice) -> Vec<u8> {
     Vec::new()
@@ -141,12 +157,6 @@ fn nothing(_dice: &mut Dice) -> Vec<u8> {
 
 fn blanks(dice: &mut Dice) -> Vec<u8> {
     chosen(dice, &[" ", "\t", " \t  ", "\r", "  \r"]).into_bytes()
-}
-
-fn remark(dice: &mut Dice) -> Vec<u8> {
-    let mut line = b"#".to_vec();
-    line.extend(spread(dice));
-    line
 }
 
 // Lines that cannot be read.
@@ -191,15 +201,19 @@ fn two_returns(dice: &mut Dice) -> Vec<u8> {
     (unsigned_words(dice).join(" ") + "\r\r").into_bytes()
 }
 
-/// Any byte but a line feed in place of one of the line's; the line may still
-/// be a case.
+/// Any byte but a line feed.
+pub fn any_byte(dice: &mut Dice) -> u8 {
+    match dice.roll() as u8 {
+        b'\n' => b'\r',
+        byte => byte,
+    }
+}
+
+/// Any byte in place of one of the line's; the line may still be a case.
 fn byte_changed(dice: &mut Dice) -> Vec<u8> {
     let mut line = spread(dice);
     let at = dice.roll() as usize % line.len();
-    line[at] = match dice.roll() as u8 {
-        b'\n' => b'\r',
-        byte => byte,
-    };
+    line[at] = any_byte(dice);
     line
 }
 

@@ -90,18 +90,32 @@ pub fn answer_line(case: &Words) -> String {
     text
 }
 
-/// Answers every line of `input` on `output`.
-pub fn answer_lines(mut input: impl BufRead, mut output: impl Write) -> io::Result<()> {
+/// What is said of an unreadable line.
+pub fn unreadable(number: u64, output: &mut impl Write) -> io::Result<()> {
+    writeln!(output, "line {number}: unreadable")
+}
+
+/// Hands on each line of `input`, without its line feed, with its number from 1 on.
+pub fn each_line(
+    mut input: impl BufRead,
+    mut take: impl FnMut(u64, &[u8]) -> io::Result<()>,
+) -> io::Result<()> {
     let mut line = Vec::new();
     let mut number: u64 = 0;
     while input.read_until(b'\n', &mut line)? > 0 {
         number += 1;
-        match read_line(line.strip_suffix(b"\n").unwrap_or(&line)) {
-            Line::Passed => {}
-            Line::Unreadable => writeln!(output, "line {number}: unreadable")?,
-            Line::Case(case) => writeln!(output, "{}", answer_line(&case))?,
-        }
+        take(number, line.strip_suffix(b"\n").unwrap_or(&line))?;
         line.clear();
     }
+    Ok(())
+}
+
+/// Answers every line of `input` on `output`.
+pub fn answer_lines(input: impl BufRead, mut output: impl Write) -> io::Result<()> {
+    each_line(input, |number, line| match read_line(line) {
+        Line::Passed => Ok(()),
+        Line::Unreadable => unreadable(number, &mut output),
+        Line::Case(case) => writeln!(output, "{}", answer_line(&case)),
+    })?;
     output.flush()
 }

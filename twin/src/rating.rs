@@ -154,23 +154,26 @@ fn conductor_wrong(case: &Words) -> bool {
     !(1..=8).contains(&case[1])
 }
 
-/// Whether a field may have its value. The isotherm's limits hold without dry soil
-/// too.
-fn within_limits(case: &Words, field: usize, (low, high): (i64, i64)) -> bool {
-    (low..=high).contains(&value(case, field)) || (field == 27 && !dry_soil(case))
+/// Whether a field has a value that it may not have. One that the arrangement has not has
+/// no limits; the isotherm's hold without dry soil too.
+pub fn outside_limits(case: &Words, field: usize) -> bool {
+    let (low, high) = limits(field);
+    let without_soil = field == 27 && !dry_soil(case);
+    has_field(case, field) && !without_soil && !(low..=high).contains(&value(case, field))
 }
 
 fn limit_passed(case: &Words) -> bool {
-    (2..)
-        .zip(LIMITS)
-        .any(|(field, limits)| has_field(case, field) && !within_limits(case, field, limits))
+    (2..WIDTH).any(|field| outside_limits(case, field))
 }
 
-/// Whether a field that must be zero is not: one that the arrangement has not, and
-/// the isotherm's where no soil dries out.
+/// Whether a field must be zero: one that the arrangement has not, and the isotherm's
+/// where no soil dries out.
+pub fn must_be_zero(case: &Words, field: usize) -> bool {
+    !has_field(case, field) || (field == 28 && !dry_soil(case))
+}
+
 fn field_stray(case: &Words) -> bool {
-    let must_be_zero = |field| !has_field(case, field) || (field == 28 && !dry_soil(case));
-    (0..).zip(case).any(|(field, &word)| must_be_zero(field) && word != 0)
+    (0..WIDTH).any(|field| must_be_zero(case, field) && case[field] != 0)
 }
 
 fn geometry_wrong(case: &Words) -> bool {

@@ -4,6 +4,7 @@
 
 use std::fmt::Display;
 use twin::cable::Cable;
+use twin::implied::{near, Implied};
 use twin::rating::{rate, value, Rated, Words, WIDTH};
 use twin::sample_cables::{COMMON_ALUMINIUM_SHEATH, COMMON_SHEATH, DRY_SOIL, FEEDER, IN_THE_SUN};
 use twin::stages::{self, Insulation, Thermal, LN_2_HIGH, LN_2_LOW, MOIST, T};
@@ -380,6 +381,30 @@ fn show_direct_current() {
     assert_eq!(rate(&FEEDER), Rated { answer: 0, rating: current as u32, sheet });
 }
 
+/// The losses of the cable above and their falls, worked out here again from its rating.
+fn show_losses([r, s, w, wd, current]: [u128; 5]) -> [u128; 3] {
+    let by_current = |name, ohms| shown(name, near(current * current * ohms, 10_000 * T));
+    let [pc, ps, pa] = [by_current("Pc", r), by_current("Ps", s), by_current("PA", w)];
+    let pd = shown("Pd", near(wd, 1_000_000));
+    let Thermal { t1, t2, t3, cores, .. } = THERMAL;
+    let first = shown("D1", (2 * pc + pd) * t1);
+    let second = shown("D2", first + 2 * cores * (pc + ps + pd) * t2);
+    [first, second, shown("D3", second + 2 * cores * (pc + ps + pa + pd) * t3)]
+}
+
+/// What its rating implies.
+fn show_implied([r, s, w, wd, current]: [u128; 5]) {
+    let implied = Implied::of(&CASE, &rate(&CASE));
+    show("λ1", implied.sheath_factor);
+    show("λ2", implied.armour_factor);
+    assert_eq!(implied.sheath_factor, near(1_000_000 * s, r));
+    assert_eq!(implied.armour_factor, near(1_000_000 * w, r));
+    assert_eq!(implied.falls, show_losses([r, s, w, wd, current]));
+    for (name, temperature) in ["θs", "θA", "θe"].iter().zip(implied.temperatures) {
+        show(name, temperature);
+    }
+}
+
 fn show_cable() {
     show_fields();
     let [rc, rs, ra] = show_resistances();
@@ -399,6 +424,7 @@ fn show_cable() {
         sheet: [rc, rs, ra, b, ys, yp, r, x, s, w, wd, dd, e].map(|number: u128| number as u64),
     };
     assert_eq!(rate(&CASE), rated(dd, e, current));
+    show_implied([r, s, w, wd, current]);
     show("ρ.dry", DRY_CASE[27]);
     show("θx.dry", value(&DRY_CASE, 28));
     let [dry_dd, dry_e, dry_current] = DRIED_SOIL.show_rating(wd, [r, s, w]);

@@ -1,6 +1,6 @@
 // The twin's tests as one program: document 01's edge values, the refusals and
 // the cases at their edges, agreement with the standard in floating point and
-// with the published ratings, the bounds by exact fractions, the line reader,
+// with the published ratings, the bounds by exact fractions, the line reader, the work sheet,
 // the book with its listing, and what is drawn.
 
 mod agreement;
@@ -17,4 +17,5 @@ mod exact;
 mod lines;
 mod published;
 mod refusals;
+mod sheet;
 mod sun;

@@ -11,6 +11,7 @@ use book_bytes::part::put;
 use book_bytes::refusal::Refusal;
 use fields::WIDTH;
 use list_text::{MOST, list_book};
+use output::send;
 use std::io::Write;
 
 type Book = [u8; MOST];
@@ -60,7 +61,8 @@ fn changed(mut book: Book, at: usize, byte: u8) -> Book {
 
 // A listing that cannot be written is missing from what is printed, which is compared.
 fn show<W: Write>(to: &mut W, book: &Book, used: usize) {
-    let _ = to.write_all(list_book(book, used).as_str().as_bytes());
+    let listing = list_book(book, used);
+    send(to, listing.as_str().as_bytes(), listing.len());
 }
 
 // Four cases, and another rating in the records of these indices.

@@ -10,6 +10,7 @@ use book::start::start;
 use input::source::{Reader, Source};
 use input::{Lines, SaidLines};
 use keep_book::{NotKept, add_word, keep_said};
+use output::send;
 use rate_text::put_about;
 use std::env::{Env, FillError};
 use std::io::Write;
@@ -46,7 +47,7 @@ fn say<W: Write>(to: &mut W, number: u64, text: &str)
 {
     let mut out = ArrayString::<128>::new();
     put_about(&mut out, number, text);
-    let _ = to.write_all(out.as_str().as_bytes());
+    send(to, out.as_str().as_bytes(), out.len());
 }
 
 // Each line's case appended to the book, and the book's used length, if every line could be read
@@ -76,6 +77,11 @@ fn keep_lines<S: Source + Drop, W: Write>(
     whole.then_some(used)
 }
 
+// Says a text about the book.
+fn say_of_book<W: Write>(to: &mut W, text: &[u8]) {
+    send(to, text, text.len());
+}
+
 // Where a line cannot be read, or the book would pass 65536 bytes, standard error says so and no book
 // is written.
 fn main(rt: HostRuntime) {
@@ -83,18 +89,17 @@ fn main(rt: HostRuntime) {
     let mut book = [0u8; 65536];
     let note = put_note(&rt, &mut book);
     let Ok(begun) = start(&mut book, note) else {
-        let _ = errors.write_all(b"the note leaves no room in a book of 65536 bytes\n");
+        say_of_book(
+            &mut errors,
+            b"the note leaves no room in a book of 65536 bytes\n",
+        );
         return;
     };
     let lines = Lines::new(Reader(rt.stdin())).said();
     let Some(used) = keep_lines(lines, &mut errors, &mut book, begun) else {
         return;
     };
-    if rt
-        .stdout()
-        .write_all(&book[..used.min(book.len())])
-        .is_err()
-    {
-        let _ = errors.write_all(b"the book was not written whole\n");
+    if !send(&mut rt.stdout(), &book, used) {
+        say_of_book(&mut errors, b"the book was not written whole\n");
     }
 }

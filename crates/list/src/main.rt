@@ -5,7 +5,8 @@
 ghost use Rattle.std.specs.Prelude.{◌≤◌, length};
 
 use list_text::{MOST, list_book};
-use std::io::{Read, Write};
+use output::send;
+use std::io::Read;
 
 // The input's next bytes at the front of `buffer`, and how many: as many as it has room for, or all
 // to the end of the input, or to where reading fails. std's read_exact does not say how many it read
@@ -29,5 +30,5 @@ fn main(rt: HostRuntime) {
     let mut buffer = [0; MOST + 1];
     let used = read_full(&mut rt.stdin(), &mut buffer);
     let listing = list_book(buffer.first_chunk().unwrap(), used);
-    let _ = rt.stdout().write_all(listing.as_str().as_bytes());
+    send(&mut rt.stdout(), listing.as_str().as_bytes(), listing.len());
 }

@@ -6,8 +6,8 @@
 use arrayvec::ArrayString;
 use input::Lines;
 use input::source::Reader;
+use output::send;
 use rate_text::{ROOM, print_said};
-use std::io::Write;
 
 // The most bytes that are written at once.
 const BUFFER: usize = 65536;
@@ -18,9 +18,9 @@ fn main(rt: HostRuntime) {
     for (number, said) in (1..=u64::MAX).zip(Lines::new(Reader(rt.stdin())).said()) {
         print_said(&mut out, number, said);
         if out.remaining_capacity() < ROOM {
-            let _ = to.write_all(out.as_str().as_bytes());
+            send(&mut to, out.as_str().as_bytes(), out.len());
             out.clear();
         }
     }
-    let _ = to.write_all(out.as_str().as_bytes());
+    send(&mut to, out.as_str().as_bytes(), out.len());
 }

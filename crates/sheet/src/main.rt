@@ -6,9 +6,9 @@
 use arrayvec::ArrayString;
 use input::Lines;
 use input::source::Reader;
+use output::send;
 use sheet_lines::heading::Heading;
 use sheet_lines::line::{ROOM, print_line};
-use std::io::Write;
 
 // The most bytes that are written at once.
 const BUFFER: usize = 65536;
@@ -20,9 +20,9 @@ fn main(rt: HostRuntime) {
     for (number, line) in (1..=u64::MAX).zip(Lines::new(Reader(rt.stdin()))) {
         print_line(&mut out, &mut heading, number, &line);
         if out.remaining_capacity() < ROOM {
-            let _ = to.write_all(out.as_str().as_bytes());
+            send(&mut to, out.as_str().as_bytes(), out.len());
             out.clear();
         }
     }
-    let _ = to.write_all(out.as_str().as_bytes());
+    send(&mut to, out.as_str().as_bytes(), out.len());
 }

@@ -4,6 +4,8 @@
 // the last and adjacent places. Then those of a small book of RBK1, with a rated case.
 #![tactic(auto)]
 
+ghost use Rattle.std.specs.Prelude.{◌<◌, ◌≤◌};
+
 use book::append::append;
 use book::start::start;
 use book_bytes::layout::{RECORD_LENGTH, TRAILER_LENGTH};
@@ -65,16 +67,19 @@ fn show<W: Write>(to: &mut W, book: &Book, used: usize) {
     send(to, listing.as_str().as_bytes(), listing.len());
 }
 
-// Four cases, and another rating in the records of these indices.
-fn show_disagreeing<W: Write>(to: &mut W, indices: &[u8]) -> Result<(), Refusal> {
+// Four cases, and another rating in three of their records, counted from 1; two may be the same.
+fn show_disagreeing<W: Write>(
+    to: &mut W,
+    first: usize,
+    second: usize,
+    third: usize,
+) -> Result<(), Refusal>
+    requires { (0 < first) × (first ≤ 4) × (0 < second) × (second ≤ 4) × (0 < third) × (third ≤ 4) }
+{
     let mut book = book_of(4)?;
-    for index in indices {
-        change(
-            &mut book,
-            RECORD_LENGTH * usize::from(*index) + (RECORD_LENGTH - 1),
-            1,
-        );
-    }
+    change(&mut book, RECORD_LENGTH * first - 1, 1);
+    change(&mut book, RECORD_LENGTH * second - 1, 1);
+    change(&mut book, RECORD_LENGTH * third - 1, 1);
     show(to, &book, 4 * RECORD_LENGTH + TRAILER_LENGTH);
     Ok(())
 }
@@ -98,12 +103,12 @@ fn show_all<W: Write>(to: &mut W) -> Result<(), Refusal> {
     show(to, &changed(sound, RECORD_LENGTH, 0), USED);
     show(to, &changed(sound, USED - 1, 113), USED);
     show(to, &changed(sound, RECORD_LENGTH - 1, 1), USED);
-    show_disagreeing(to, &[3])?;
-    show_disagreeing(to, &[0, 3])?;
-    show_disagreeing(to, &[0, 1])?;
-    show_disagreeing(to, &[1, 2])?;
-    show_disagreeing(to, &[2, 3])?;
-    show_disagreeing(to, &[3, 1, 0])?;
+    show_disagreeing(to, 4, 4, 4)?;
+    show_disagreeing(to, 1, 4, 4)?;
+    show_disagreeing(to, 1, 2, 2)?;
+    show_disagreeing(to, 2, 3, 3)?;
+    show_disagreeing(to, 3, 4, 4)?;
+    show_disagreeing(to, 4, 2, 1)?;
     show_older(to);
     Ok(())
 }

@@ -12,7 +12,7 @@ use book_bytes::layout::{RECORD_LENGTH, TRAILER_LENGTH};
 use book_bytes::part::put;
 use book_bytes::refusal::Refusal;
 use fields::WIDTH;
-use list_text::{MOST, list_book};
+use list_text::{Listing, MOST, list_into};
 use output::send;
 use std::io::Write;
 
@@ -40,14 +40,13 @@ fn older_book() -> Book {
     book
 }
 
-// A book without a note.
-fn book_of(cases: usize) -> Result<Book, Refusal> {
-    let mut book = [0; MOST];
-    let mut used = start(&mut book, 0)?;
+// A book without a note, at the front of the buffer.
+fn write_book(book: &mut Book, cases: usize) -> Result<(), Refusal> {
+    let mut used = start(book, 0)?;
     for _ in 0..cases {
-        used = append(&mut book, used, [0; WIDTH])?;
+        used = append(book, used, [0; WIDTH])?;
     }
-    Ok(book)
+    Ok(())
 }
 
 fn change(book: &mut Book, at: usize, byte: u8) {
@@ -62,58 +61,62 @@ fn changed(mut book: Book, at: usize, byte: u8) -> Book {
 }
 
 // A listing that cannot be written is missing from what is printed, which is compared.
-fn show<W: Write>(to: &mut W, book: &Book, used: usize) {
-    let listing = list_book(book, used);
-    send(to, listing.as_str().as_bytes(), listing.len());
+fn show<W: Write>(to: &mut W, out: &mut Listing, book: &Book, used: usize) {
+    list_into(out, book, used);
+    send(to, out.as_str().as_bytes(), out.len());
 }
 
 // Four cases, and another rating in three of their records, counted from 1; two may be the same.
 fn show_disagreeing<W: Write>(
     to: &mut W,
+    out: &mut Listing,
     first: usize,
     second: usize,
     third: usize,
 ) -> Result<(), Refusal>
     requires { (0 < first) × (first ≤ 4) × (0 < second) × (second ≤ 4) × (0 < third) × (third ≤ 4) }
 {
-    let mut book = book_of(4)?;
+    let mut book = [0; MOST];
+    write_book(&mut book, 4)?;
     change(&mut book, RECORD_LENGTH * first - 1, 1);
     change(&mut book, RECORD_LENGTH * second - 1, 1);
     change(&mut book, RECORD_LENGTH * third - 1, 1);
-    show(to, &book, 4 * RECORD_LENGTH + TRAILER_LENGTH);
+    show(to, out, &book, 4 * RECORD_LENGTH + TRAILER_LENGTH);
     Ok(())
 }
 
 // As for the small book of RBK2, and with that mark on the records of RBK1.
-fn show_older<W: Write>(to: &mut W) {
+fn show_older<W: Write>(to: &mut W, out: &mut Listing) {
     let sound = older_book();
     let trailer = OLDER_USED - TRAILER_LENGTH;
-    show(to, &sound, OLDER_USED);
-    show(to, &sound, MOST + 1);
-    show(to, &changed(sound, trailer, 0), OLDER_USED);
-    show(to, &changed(sound, OLDER_USED - 1, 128), OLDER_USED);
-    show(to, &changed(sound, trailer - 1, 1), OLDER_USED);
-    show(to, &changed(sound, trailer + 3, b'2'), OLDER_USED);
+    show(to, out, &sound, OLDER_USED);
+    show(to, out, &sound, MOST + 1);
+    show(to, out, &changed(sound, trailer, 0), OLDER_USED);
+    show(to, out, &changed(sound, OLDER_USED - 1, 128), OLDER_USED);
+    show(to, out, &changed(sound, trailer - 1, 1), OLDER_USED);
+    show(to, out, &changed(sound, trailer + 3, b'2'), OLDER_USED);
 }
 
-fn show_all<W: Write>(to: &mut W) -> Result<(), Refusal> {
-    let sound = book_of(1)?;
-    show(to, &sound, USED);
-    show(to, &sound, MOST + 1);
-    show(to, &changed(sound, RECORD_LENGTH, 0), USED);
-    show(to, &changed(sound, USED - 1, 113), USED);
-    show(to, &changed(sound, RECORD_LENGTH - 1, 1), USED);
-    show_disagreeing(to, 4, 4, 4)?;
-    show_disagreeing(to, 1, 4, 4)?;
-    show_disagreeing(to, 1, 2, 2)?;
-    show_disagreeing(to, 2, 3, 3)?;
-    show_disagreeing(to, 3, 4, 4)?;
-    show_disagreeing(to, 4, 2, 1)?;
-    show_older(to);
+fn show_all<W: Write>(to: &mut W, out: &mut Listing) -> Result<(), Refusal> {
+    let mut sound = [0; MOST];
+    write_book(&mut sound, 1)?;
+    show(to, out, &sound, USED);
+    show(to, out, &sound, MOST + 1);
+    show(to, out, &changed(sound, RECORD_LENGTH, 0), USED);
+    show(to, out, &changed(sound, USED - 1, 113), USED);
+    show(to, out, &changed(sound, RECORD_LENGTH - 1, 1), USED);
+    show_disagreeing(to, out, 4, 4, 4)?;
+    show_disagreeing(to, out, 1, 4, 4)?;
+    show_disagreeing(to, out, 1, 2, 2)?;
+    show_disagreeing(to, out, 2, 3, 3)?;
+    show_disagreeing(to, out, 3, 4, 4)?;
+    show_disagreeing(to, out, 4, 2, 1)?;
+    show_older(to, out);
     Ok(())
 }
 
 // These books fit. Were one refused, the listings from there on would be missing from what is printed.
 fn main(rt: HostRuntime) {
-    let _ = show_all(&mut rt.stdout());
+    let mut out = Listing::new();
+    let _ = show_all(&mut rt.stdout(), &mut out);
 }

@@ -1,10 +1,10 @@
 // Reads a book of at most 65536 bytes from standard input and prints its listing. What is printed is
-// `list_text::list_book`; here are the buffers, the reading and the writing.
+// `list_text::list_into`; here are the buffers, the reading and the writing.
 #![tactic(auto)]
 
 ghost use Rattle.std.specs.Prelude.{◌≤◌, length};
 
-use list_text::{MOST, list_book};
+use list_text::{Listing, MOST, list_into};
 use output::send;
 use std::io::Read;
 
@@ -28,7 +28,8 @@ fn read_full<R: Read>(source: &mut R, buffer: &mut [u8]) -> usize
 // is lost, since there is nowhere to say so.
 fn main(rt: HostRuntime) {
     let mut buffer = [0; MOST + 1];
+    let mut out = Listing::new();
     let used = read_full(&mut rt.stdin(), &mut buffer);
-    let listing = list_book(buffer.first_chunk().unwrap(), used);
-    send(&mut rt.stdout(), listing.as_str().as_bytes(), listing.len());
+    list_into(&mut out, buffer.first_chunk().unwrap(), used);
+    send(&mut rt.stdout(), out.as_str().as_bytes(), out.len());
 }

@@ -1,4 +1,4 @@
-// The listing of a book: what the program `list` prints. Each function appends to the text in `out`.
+// The listing of a book: what the program `list` prints. Each `put_` function appends to the text in `out`.
 // A bound on the text's length shows that what comes next has room.
 #![tactic(auto)]
 
@@ -84,18 +84,27 @@ pub const MOST: usize = 65536;
 
 pub type Listing = ArrayString<MOST>;
 
-// The listing of a book in a buffer of as many bytes, which always fits. A used length over the buffer's is refused by 20.
+// The listing of a book in a buffer of as many bytes, which always fits, in place of what the text had. A used length over the
+// buffer's is refused by 20.
+pub fn list_into(out: &mut Listing, book: &[u8; MOST], used: usize)
+    ensures { out.new.bytes ≡ listing_of book.now used }
+{
+    out.clear();
+    match accept(book, used) {
+        Ok(accepted) => {
+            put_line(out, "book ", accepted.count as u64);
+            let layout = layout_of(book, used);
+            put_records(out, layout, book, accepted.first, accepted.count);
+        }
+        Err(refusal) => put_refusal(out, refusal),
+    }
+}
+
+// The listing of a book as a value of its own, which takes a buffer as large as the book's.
 pub fn list_book(book: &[u8; MOST], used: usize) -> Listing
     ensures { result.bytes ≡ listing_of book.now used }
 {
     let mut out = Listing::new();
-    match accept(book, used) {
-        Ok(accepted) => {
-            put_line(&mut out, "book ", accepted.count as u64);
-            let layout = layout_of(book, used);
-            put_records(&mut out, layout, book, accepted.first, accepted.count);
-        }
-        Err(refusal) => put_refusal(&mut out, refusal),
-    }
+    list_into(&mut out, book, used);
     out
 }

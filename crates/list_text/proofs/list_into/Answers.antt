@@ -1,4 +1,4 @@
--- `list_text::list_book` meets its contract: the first line and the records, or the refusal. The count of a book within 65536 bytes
+-- `list_text::list_into` meets its contract: the first line and the records, or the refusal. The count of a book within 65536 bytes
 -- leaves room for its lines. Assumes nothing.
 use Rattle.std.proofs.Common.{ap, arith, eqb, false, length, refl, rules, subst, sym, List, Ok, Err, ℕ}
 use Rattle.std.proofs.Common.{◌*◌, ◌++◌, ◌≤◌, ◌∙◌, ◌≡◌}
@@ -14,7 +14,7 @@ use Rattle.book_bytes.specs.declared.layout.Layout as Code
 use Rattle.book_bytes.specs.Layout.{layout_as}
 use Rattle.book_laws.specs.Layout.{Layout, record_length, rbk1}
 use Rattle.list_text.specs.Listing.{record_lines, book_line, refusal_line, listing_for, listing_of}
-use Rattle.list_text.proofs.list_book.Goals as goal
+use Rattle.list_text.proofs.list_into.Goals as goal
 
 some_number : (r : Refusal) → eqb (number_of r) 0 ≡ false
 some_number Length = refl
@@ -48,7 +48,7 @@ pub put_records-requires : goal.put_records-requires
 put_records-requires c =
     let within = (counted _ _ c.in-Ok.ensures c.layout_of-layout.ensures).within in
     let short = short_most c.layout_of-layout.result c.in-Ok.accepted.count in
-    (search rules, (omega (arith, within, short, c.put_line.ensures.within, ap length c.new-out.ensures), within))
+    (search rules, (omega (arith, within, short, c.put_line.ensures.within, ap length c.clear.ensures), within))
 
 pub returns-in-Ok : goal.returns-in-Ok
 unfolding book_line
@@ -56,7 +56,7 @@ returns-in-Ok c =
     let a = c.in-Ok.accepted in
     let lines = record_lines (layout_as c.layout_of-layout.result) c.args.book.now a.first a.count in
     let headed : c.put_line.new.out.bytes ≡ book_line a.count =
-    c.put_line.ensures.text ∙ ap (λ (t : List ℕ). t ++ book_line a.count) c.new-out.ensures
+    c.put_line.ensures.text ∙ ap (λ (t : List ℕ). t ++ book_line a.count) c.clear.ensures
     in
     c.put_records.ensures.text
     ∙ ap (λ (t : List ℕ). t ++ lines) headed
@@ -66,5 +66,5 @@ pub returns-in-Err : goal.returns-in-Err
 returns-in-Err c =
     let r = c.in-Err.refusal in
     c.put_refusal.ensures.text
-    ∙ ap (λ (t : List ℕ). t ++ refusal_line (number_of r) (named_by r)) c.new-out.ensures
+    ∙ ap (λ (t : List ℕ). t ++ refusal_line (number_of r) (named_by r)) c.clear.ensures
     ∙ of_refusal _ _ r c.in-Err.ensures

@@ -5,77 +5,41 @@
 
 mod count;
 mod expected;
+mod tally;
 mod two_records;
+mod waiting;
 
-use arrayvec::ArrayString;
+ghost use Rattle.check_vectors.specs.Counts.{compared};
+ghost use Rattle.check_vectors.specs.Waiting.{waits_after};
+ghost use Rattle.std.specs.Prelude.{Bool, cond, eqb, length, ◌≡◌};
+
 use count::Count;
-use expected::{is_same, is_within};
 use input::Lines;
 use input::source::{Reader, Source};
-use rate_text::{ROOM, print_line};
-use rating::rate::rate;
 use std::io;
-use text::line::{Said, read_line};
+use tally::Tally;
+use waiting::Waiting;
 
-// A case that waits for what it must get: what `rate` prints for it, and its rating.
-#[derive(Drop)]
-struct Waiting {
-    printed: ArrayString<ROOM>,
-    rating: u32,
-}
-
-// The comparisons with a line, and with a range of the rating.
-#[derive(Clone, Copy, Default)]
-struct Tally {
-    cases: Count,
-    ranges: Count,
-}
-
-// The rating of the case that a line says, and 0 where it says none or one that is refused. 0 and no
-// Option: that is the rating which rate prints for a refused case.
-fn rating_of(line: &[u8]) -> u32 {
-    match read_line(line) {
-        Said::Case(x) => rate(x).map_or(0, |rated| rated.rating),
-        Said::PassedOver | Said::Unreadable => 0,
+// Each line is a case, or what the case before it must get, which then waits no more.
+fn turn(waiting: &mut Waiting, tally: &mut Tally, number: u64, line: &[u8])
+    ensures waits { waiting.new.text.bytes ≡ waits_after waiting.old.text.bytes number line.now }
+    ensures counts { (is_right : Bool) × (tally.new ≡
+        cond (eqb (length waiting.old.text.bytes) 0) tally.old (compared line.now is_right tally.old)) }
+{
+    if waiting.text.is_empty() {
+        waiting.take_case(number, line);
+    } else {
+        tally.compare(waiting, line);
+        waiting.text.clear();
     }
 }
 
-// The case that a line has. Empty lines and lines that begin with `#` are passed over.
-fn case_on(number: u64, line: &[u8]) -> Option<Waiting> {
-    let mut printed = ArrayString::<ROOM>::new();
-    print_line(&mut printed, number, line);
-    if printed.is_empty() {
-        return None;
-    }
-    Some(Waiting {
-        printed,
-        rating: rating_of(line),
-    })
-}
-
-impl Tally {
-    // A case is compared with what a line says that it must get: what the program `rate` must print for
-    // it, or by `r LOW HIGH` that its rating lies between these, ends included (mA).
-    fn compare(&mut self, case: &Waiting, line: &[u8]) {
-        match line.strip_prefix(b"r") {
-            Some(range) => self.ranges.add(is_within(range, case.rating)),
-            None => self.cases.add(is_same(case.printed.as_str(), line)),
-        }
-    }
-}
-
-// Each line is a case, or what the case before it must get.
+// No case waits before the first line.
 fn compare<S: Source + Drop>(lines: Lines<S>) -> Tally {
     let mut tally = Tally::default();
-    let mut case = None;
+    let mut waiting = Waiting::none();
     for (number, line) in (1..=u64::MAX).zip(lines) {
-        case = match case {
-            None => case_on(number, &line),
-            Some(case) => {
-                tally.compare(&case, &line);
-                None
-            }
-        };
+        turn(&mut waiting, &mut tally, number, &line);
     }
     tally
 }

@@ -7,6 +7,8 @@ ghost use Rattle.std.specs.Prelude.{[], ◌∷◌, ◌++◌, ◌≡◌, ◌+◌,
 ghost use Rattle.arrayvec.specs.ArrayString.{array_string_len};
 ghost use Rattle.decimals.specs.Decimal.{decimal, spaced};
 
+pub mod placed;
+
 use arrayvec::ArrayString;
 use itoa::Buffer;
 

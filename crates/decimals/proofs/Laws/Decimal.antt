@@ -156,6 +156,10 @@ decimal_split n x h =
     ∙ padded_split (length (decimal q)) n x
     ∙ ap (λ (d : List ℕ). d ++ padded n (x % 10 ^ n)) (sym (decimal_padded q))
 
+pub spaced_one : (x : ℕ) → (32 ∷ []) ++ decimal x ≡ spaced (x ∷ [])
+unfolding spaced
+spaced_one x = ap (λ (t : List ℕ). 32 ∷ t) (sym (append-nil (decimal x)))
+
 pub spaced_append : (xs ys : List ℕ) → spaced (xs ++ ys) ≡ spaced xs ++ spaced ys
 unfolding spaced
 spaced_append [] ys = refl

@@ -1,11 +1,8 @@
 -- `decimals::put_number` meets its contract: the blank and the digits are what a number on a line is. Assumes nothing.
-use Rattle.std.proofs.Common.{[], ap, append-nil, append_assoc, arith, length, length-append, lit<, sym, List, ◌++◌, ◌∙◌, ◌∷◌, ◌≡◌, ℕ}
-use Rattle.decimals.specs.Decimal.{decimal, spaced}
+use Rattle.std.proofs.Common.{[], ap, append_assoc, arith, length, length-append, lit<, List, ◌++◌, ◌∙◌, ◌∷◌, ◌≡◌, ℕ}
+use Rattle.decimals.specs.Decimal.{decimal}
+use Rattle.decimals.proofs.Laws.Decimal.{spaced_one}
 use Rattle.decimals.proofs.put_number.Goals as goal
-
-one : (x : ℕ) → (32 ∷ []) ++ decimal x ≡ spaced (x ∷ [])
-unfolding spaced
-one x = ap (λ (t : List ℕ). 32 ∷ t) (sym (append-nil (decimal x)))
 
 pub returns : goal.returns
 returns g c =
@@ -17,6 +14,6 @@ returns g c =
           c.put_decimal.ensures.text
           ∙ ap (λ (t : List ℕ). t ++ digits) blank
           ∙ append_assoc text (32 ∷ []) digits
-          ∙ ap (λ (t : List ℕ). text ++ t) (one c.args.x);
+          ∙ ap (λ (t : List ℕ). text ++ t) (spaced_one c.args.x);
       within = omega (arith, c.put_decimal.ensures.within, ap length blank, length-append text (32 ∷ []));
     }

@@ -9,6 +9,8 @@ ghost use Rattle.rate_text.specs.Answers.{answer_room, sheet_room, text_of, abou
 ghost use Rattle.rating.specs.Rate.{answer_of};
 ghost use Rattle.decimals.specs.Decimal.{spaced};
 
+pub mod placed;
+
 use arrayvec::ArrayString;
 use decimals::{put_decimal, put_number};
 use rating::rate::{Rated, SHEET, rate};

@@ -1,8 +1,9 @@
 // The steps of a loop over the lines of a stream.
-ghost use Rattle.std.specs.Prelude.{List, Some, ◌≡◌, ℕ, ◌<◌, length, OnSome};
+ghost use Rattle.std.specs.Prelude.{List, Some, ◌≡◌, ℕ, ◌+◌, ◌<◌, length, take, IfSome, OnSome};
 ghost use Rattle.std.specs.Iterator.{at_most};
 ghost use Rattle.input.specs.State.{most_lines};
 ghost use Rattle.input.specs.Stream.{Awaits, NextLine, NextSaid};
+ghost use Rattle.line_in_place.specs.Standing.{standing};
 
 use crate::source::Source;
 use crate::{CHUNK, Line, Lines, SaidLines};
@@ -12,8 +13,10 @@ use text::gather::gather;
 use text::line::{Said, read_line};
 
 impl<S: Source> Lines<S> {
-    // All bytes of the source are still to come, where these are fewer than the reads.
+    // Nothing is read yet. All bytes of the source are still to come, where these are fewer than the
+    // reads.
     pub fn new(source: S) -> Self
+        ensures start { (result.at ≡ 0) × (result.end ≡ 0) }
         ensures reads { result.reads ≡ 18446744073709551615 }
         ensures awaits { (xs : List ℕ) → S.remaining source ≡ Some xs → length xs < 18446744073709551615
             → Awaits S.remaining result xs }
@@ -66,6 +69,9 @@ impl<S: Source> Lines<S> {
     pub fn next_said(&mut self) -> Option<Said>
         ensures progress { OnSome result (most_lines self.new.at self.new.end self.new.reads
             < most_lines self.old.at self.old.end self.old.reads) }
+        ensures value { IfSome (standing (take self.old.end self.old.chunk) self.old.at) (λ here.
+            (result ≡ Some here.said) × (self.new.at ≡ here.to + 1) × (self.new.end ≡ self.old.end)
+            × (self.new.reads ≡ self.old.reads)) }
         ensures said { NextSaid S.remaining self.old result self.new }
     {
         if let Some(line) = read_at(&self.chunk[..self.end], self.at) {

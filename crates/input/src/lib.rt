@@ -3,6 +3,7 @@
 // not grow with the input, and a budget of reads makes every loop over the lines end.
 #![tactic(auto)]
 
+pub mod lent;
 pub mod source;
 mod steps;
 #[cfg(test)]

@@ -39,7 +39,7 @@ pub extern "C" fn sheafdawn_rate(case: &[u32], out: &mut [u64]) -> u32
             0
         }
         Err(refusal) => {
-            out.fill(0);
+            out.fill(0); // the rating too
             u32::from(refusal)
         }
     }
